@@ -1,0 +1,4 @@
+pub mod Runs
+pub mod Nops
+pub mod Labels
+pub mod Ill

@@ -1,0 +1,58 @@
+-- What the rounding of Binary64 is, as statements. Definitions only: `rounding_theorems` in src/lib.rt states that they hold.
+use Prim.Native.Nat.{ℕ, _*_, _-_, _^_, _≤_, _<_}
+use mathlib.Core.Path.{_≡_}
+use mathlib.Core.Bool.{Bool, false}
+use Rattle.float64.specs.Rounding.{NearestEven, roundPattern}
+use Rattle.float64.specs.Binary64.{infinity, finite, value, signed, Exact, exactSum, exactDifference, exactProduct, exactQuotient, sumBits, differenceBits, productBits, quotientBits, ofWhole}
+
+-- a fraction of units is rounded to a nearest pattern, and at a tie to an even one
+abbrev pub RoundsToNearestEven : Type 0
+RoundsToNearestEven = (n den : ℕ) → 0 < den → NearestEven 52 infinity n den (roundPattern 52 infinity n den)
+
+-- there is only one such pattern
+abbrev pub OnlyOneIsNearestEven : Type 0
+OnlyOneIsNearestEven = (n den p q : ℕ) → 0 < den → NearestEven 52 infinity n den p → NearestEven 52 infinity n den q → p ≡ q
+
+-- it is the infinity's from 2 ^ 1024 - 2 ^ 970 on, which is so many units, and not below
+abbrev pub OverflowsFrom : Type 0
+OverflowsFrom =
+    (n den : ℕ) → 0 < den
+    → (roundPattern 52 infinity n den ≡ infinity → (2 ^ 1024 - 2 ^ 970) * 2 ^ 1074 * den ≤ n)
+    × ((2 ^ 1024 - 2 ^ 970) * 2 ^ 1074 * den ≤ n → roundPattern 52 infinity n den ≡ infinity)
+
+-- the pattern r is the exact result e, rounded to nearest, ties to even
+pub record IsRounded (e : Exact) (r : ℕ) : Type 0 where
+  pub magnitude : ℕ
+  pub with-sign : r ≡ signed (e .sign) magnitude
+  pub nearest : NearestEven 52 infinity (e .numerator) (e .denominator) magnitude
+
+-- P holds of all patterns a and b that stand for finite numbers, those being ±u and ±v units
+abbrev pub OfFinite : ((a b : ℕ) (s : Bool) (u : ℕ) (t : Bool) (v : ℕ) → Type 0) → Type 0
+OfFinite P = (a b : ℕ) (s : Bool) (u : ℕ) (t : Bool) (v : ℕ) → value a ≡ finite s u → value b ≡ finite t v → P a b s u t v
+
+-- of finite operands each operation gives the exact result, rounded once
+abbrev pub SumIsRounded : Type 0
+SumIsRounded = OfFinite (λ a b s u t v. IsRounded (exactSum s u t v) (sumBits a b))
+
+abbrev pub DifferenceIsRounded : Type 0
+DifferenceIsRounded = OfFinite (λ a b s u t v. IsRounded (exactDifference s u t v) (differenceBits a b))
+
+abbrev pub ProductIsRounded : Type 0
+ProductIsRounded = OfFinite (λ a b s u t v. IsRounded (exactProduct s u t v) (productBits a b))
+
+abbrev pub QuotientIsRounded : Type 0
+QuotientIsRounded = OfFinite (λ a b s u t v. 0 < v → IsRounded (exactQuotient s u t v) (quotientBits a b))
+
+-- a whole number of at most 53 digits is kept
+abbrev pub WholeIsExact : Type 0
+WholeIsExact = (n : ℕ) → n ≤ 2 ^ 53 → value (ofWhole n) ≡ finite false (n * 2 ^ 1074)
+
+pub record Theorems : Type 0 where
+  pub nearest : RoundsToNearestEven
+  pub only-one : OnlyOneIsNearestEven
+  pub overflows : OverflowsFrom
+  pub sum : SumIsRounded
+  pub difference : DifferenceIsRounded
+  pub product : ProductIsRounded
+  pub quotient : QuotientIsRounded
+  pub whole : WholeIsExact

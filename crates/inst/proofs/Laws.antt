@@ -1,0 +1,85 @@
+-- Laws of tests, forms and parts of a list that the proofs share. Assumes nothing.
+use Prim.Native.Nat.{ℕ, _<_, _≤_, _+_, _-_}
+use mathlib.Core.Path.{_≡_, refl, _∙_, ap, sym}
+use mathlib.Core.Bool.{Bool, true, false, cond, _&&_, and-false}
+use mathlib.Core.List.{List, _∷_}
+use native.Mathlib.Numerals.{add-one}
+use native.Mathlib.Omega.{arith}
+use lib.Dec.{T, eqb, ltb, leb, lit<, lit≤}
+use lib.ListN.{length, getD, drop, drop-of-length-le}
+use lib.Seq.{drop-cons}
+use borrow.Author.Tests.{ne-eqb, lt-leb}
+use Rattle.inst.specs.Forms.{Form, none, eight, one, name, undefined, hasNone, hasEight, hasOne, hasName, formOf, numberOf}
+use Rattle.inst.specs.Records.{nameOk}
+
+-- by a test, and what no test can be
+pub by-test : {A : Type 0} (P : A → Type 0) (b : Bool) (x y : A) → (b ≡ true → P x) → (b ≡ false → P y) → P (cond b x y)
+by-test P true x y f g = f refl
+by-test P false x y f g = g refl
+
+pub never : {A : Type 0} → false ≡ true → A
+never e = let z : _≡_ {A = ℕ} 0 1 = cc in absurd (omega arith)
+
+pub and-left : (a b : Bool) → (a && b) ≡ true → a ≡ true
+and-left true b t = refl
+and-left false b t = t
+
+pub and-right : (a b : Bool) → (a && b) ≡ true → b ≡ true
+and-right true b t = t
+and-right false b t = cc
+
+-- a number that is no byte has no form
+module _ (op : ℕ) (h : 255 < op) where
+  other : (k : ℕ) → T (ltb k 256) → eqb op k ≡ false
+  other k t = let l : k < 256 = lit< t in ne-eqb op k (λ e. omega arith)
+
+  above : (k : ℕ) → T (ltb k 256) → leb op k ≡ false
+  above k t = let l : k < 256 = lit< t in lt-leb op k (omega arith)
+
+  pub no-form : formOf op ≡ undefined
+  unfolding formOf hasNone hasEight hasOne hasName
+  no-form = let t : T true = tt in simp (other, above, and-false)
+
+-- the form of a number, the table's numbers backwards
+abbrev pub formAt : ℕ → Form
+formAt n = cond (eqb n 1) none (cond (eqb n 2) eight (cond (eqb n 3) one (cond (eqb n 4) name undefined)))
+
+pub form-back : (f : Form) → f ≡ formAt (numberOf f)
+unfolding numberOf
+form-back none = refl
+form-back eight = refl
+form-back one = refl
+form-back name = refl
+form-back undefined = refl
+
+pub is-form : (op n k : ℕ) → n ≡ numberOf (formOf op) → n ≡ k → formOf op ≡ formAt k
+is-form op n k e h = form-back (formOf op) ∙ ap formAt (sym e ∙ h)
+
+small : (f : Form) → numberOf f ≤ 4
+unfolding numberOf
+small none = lit≤ tt
+small eight = lit≤ tt
+small one = lit≤ tt
+small name = lit≤ tt
+small undefined = lit≤ tt
+
+-- no number of a form that has a case of its own
+pub not-form : (op n : ℕ) → n ≡ numberOf (formOf op) → (n ≡ 1 → ⊥) → (n ≡ 2 → ⊥) → (n ≡ 3 → ⊥) → (n ≡ 4 → ⊥) → formOf op ≡ undefined
+not-form op n e p q r s = is-form op n 0 e (omega (arith, small (formOf op)))
+
+-- one element more
+pub drop-next : (s : List ℕ) (i : ℕ) → i < length s → drop i s ≡ getD s i 0 ∷ drop (i + 1) s
+drop-next s i h = rw add-one (drop-cons s i 0 h)
+
+-- what is left of a name decides
+pub name-next : (s : List ℕ) (i : ℕ) → i < length s → nameOk (drop i s) ≡ (ltb (getD s i 0) 128 && nameOk (drop (i + 1) s))
+unfolding nameOk
+name-next s i h = rw (drop-next s i h)
+
+pub name-end : (s : List ℕ) (i : ℕ) → length s ≤ i → nameOk (drop i s) ≡ true
+unfolding nameOk
+name-end s i h = rw (drop-of-length-le s h)
+
+-- a part from its start to its end
+pub part-size : (a b : ℕ) → a + b - a ≡ b
+part-size a b = omega arith

@@ -1,0 +1,3 @@
+mod Table
+pub mod Laws
+pub mod Facts

@@ -1,0 +1,39 @@
+-- The operand's form of each first byte, as document 01 lists them.
+use Prim.Native.Nat.{ℕ}
+use mathlib.Core.Bool.{Bool, cond, _&&_, _||_}
+use lib.Dec.{eqb, leb}
+
+-- the first bytes from a to b
+abbrev pub within : ℕ → ℕ → ℕ → Bool
+within a b op = leb a op && leb op b
+
+pub data Form : Type 0 where
+  none eight one name undefined : Form
+
+-- none: 0, 2 to 9, 22 to 26, 29, 31 to 36, 38 to 45, 69
+unfoldable pub hasNone : ℕ → Bool
+hasNone op = eqb op 0 || within 2 9 op || within 22 26 op || eqb op 29 || within 31 36 op || within 38 45 op || eqb op 69
+
+-- eight bytes, little-endian: 1 (a cell), 10 and 11 (a u64)
+unfoldable pub hasEight : ℕ → Bool
+hasEight op = eqb op 1 || eqb op 10 || eqb op 11
+
+-- one byte: 27, 46
+unfoldable pub hasOne : ℕ → Bool
+hasOne op = eqb op 27 || eqb op 46
+
+-- name: 12 to 21, 28, 30, 37
+unfoldable pub hasName : ℕ → Bool
+hasName op = within 12 21 op || eqb op 28 || eqb op 30 || eqb op 37
+
+-- undefined: all others
+unfoldable pub formOf : ℕ → Form
+formOf op = cond (hasNone op) none (cond (hasEight op) eight (cond (hasOne op) one (cond (hasName op) name undefined)))
+
+-- the number of each form in the code's table
+unfoldable pub numberOf : Form → ℕ
+numberOf undefined = 0
+numberOf none = 1
+numberOf eight = 2
+numberOf one = 3
+numberOf name = 4

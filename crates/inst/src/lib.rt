@@ -1,0 +1,21 @@
+// One instruction (mm's inst.rs): its record, the table of operand forms, the check of a name and the well-formed record.
+mod forms;
+mod records;
+
+pub use forms::EIGHT;
+pub use forms::NAME;
+pub use forms::NONE;
+pub use forms::ONE;
+pub use forms::form;
+pub use records::is_well_formed;
+pub use records::name_in;
+pub use records::name_ok;
+
+// An instruction record: the first byte, the cell, number or stream, and where in the image the name stands.
+// What an instruction does not use is 0.
+pub struct Inst {
+    pub typ: u64,
+    pub val: u64,
+    pub start: u64,
+    pub len: u64,
+}

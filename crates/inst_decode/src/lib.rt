@@ -1,0 +1,174 @@
+// Decoding one instruction (Inst::from_bytes of mm's inst.rs).
+ghost use mathlib.Core.Path.{_≡_};
+ghost use Prim.Native.Nat.{_+_, _≤_, _<_};
+ghost use mathlib.Core.List.{[], _∷_};
+ghost use lib.ListN.{length};
+ghost use Rattle.inst.specs.Forms.{eight, one, name};
+ghost use Rattle.inst_decode.specs.Decode.{means, littleEndian, word, typeOf, isNegative, readName, readOperand, fromBytes};
+use inst::EIGHT;
+use inst::Inst;
+use inst::NAME;
+use inst::NONE;
+use inst::ONE;
+use inst::form;
+use inst::name_ok;
+
+// What from_bytes finds: a number of document 01 by its case, or a record and its size.
+pub enum Decoded {
+    Undefined,
+    PastEnd,
+    NotAscii,
+    Read(Inst, usize),
+}
+
+// Eight bytes as a number, the lowest first.
+fn join(a: u8, b: u8, c: u8, d: u8, e: u8, f: u8, g: u8, h: u8) -> u64
+    ensures { λ r. ⌜ r ≡ littleEndian (a ∷ b ∷ c ∷ d ∷ e ∷ f ∷ g ∷ h ∷ []) ⌝ }
+{
+    a as u64
+        + 0x100 * (b as u64)
+        + 0x10000 * (c as u64)
+        + 0x1000000 * (d as u64)
+        + 0x100000000 * (e as u64)
+        + 0x10000000000 * (f as u64)
+        + 0x1000000000000 * (g as u64)
+        + 0x100000000000000 * (h as u64)
+}
+
+// The eight bytes from `at` on.
+fn word_at(image: &[u8], at: usize) -> u64
+    requires { ⌜ at + 8 ≤ length (now image) ⌝ }
+    ensures { λ r. ⌜ r ≡ word (now (image .entry)) at ⌝ }
+{
+    join(
+        image[at],
+        image[at + 1],
+        image[at + 2],
+        image[at + 3],
+        image[at + 4],
+        image[at + 5],
+        image[at + 6],
+        image[at + 7],
+    )
+}
+
+// An operand of eight bytes behind the first byte at `at`.
+fn read_eight(image: &[u8], at: usize, op: u64) -> Decoded
+    requires { ⌜ at < length (now image) ⌝ }
+    ensures { λ r. ⌜ means r ≡ readOperand (now (image .entry)) at op eight ⌝ }
+{
+    if image.len() - at < 9 {
+        return Decoded::PastEnd;
+    }
+    Decoded::Read(
+        Inst {
+            typ: op,
+            val: word_at(image, at + 1),
+            start: 0,
+            len: 0,
+        },
+        9,
+    )
+}
+
+// Byte 27 is read as FDMP.
+fn type_of(op: u64) -> u64
+    ensures { λ r. ⌜ r ≡ typeOf op ⌝ }
+{
+    if op == 27 { 46 } else { op }
+}
+
+// An operand of one byte.
+fn read_one(image: &[u8], at: usize, op: u64) -> Decoded
+    requires { ⌜ at < length (now image) ⌝ }
+    ensures { λ r. ⌜ means r ≡ readOperand (now (image .entry)) at op one ⌝ }
+{
+    if image.len() - at < 2 {
+        return Decoded::PastEnd;
+    }
+    Decoded::Read(
+        Inst {
+            typ: type_of(op),
+            val: image[at + 1] as u64,
+            start: 0,
+            len: 0,
+        },
+        2,
+    )
+}
+
+// Bit 63 of a length field is set and the magnitude isn't 0.
+fn is_negative(field: u64) -> bool
+    ensures { λ r. ⌜ r ≡ isNegative field ⌝ }
+{
+    if field < 0x8000000000000000 {
+        return false;
+    }
+    field % 0x1000000000000 != 0
+}
+
+// The name behind a length field.
+fn read_name(image: &[u8], at: usize, op: u64, field: u64) -> Decoded
+    requires { ⌜ at + 9 ≤ length (now image) ⌝ }
+    ensures { λ r. ⌜ means r ≡ readName (now (image .entry)) at op field ⌝ }
+{
+    if is_negative(field) {
+        return Decoded::PastEnd;
+    }
+    let start = at + 9;
+    let magnitude = field % 0x1000000000000;
+    let len = magnitude as usize;
+    if image.len() - start < len {
+        return Decoded::PastEnd;
+    }
+    let end = start + len;
+    if name_ok(&image[start..end]) {
+        Decoded::Read(
+            Inst {
+                typ: op,
+                val: 0,
+                start: start as u64,
+                len: magnitude,
+            },
+            9 + len,
+        )
+    } else {
+        Decoded::NotAscii
+    }
+}
+
+// An operand that is a name.
+fn read_named(image: &[u8], at: usize, op: u64) -> Decoded
+    requires { ⌜ at < length (now image) ⌝ }
+    ensures { λ r. ⌜ means r ≡ readOperand (now (image .entry)) at op name ⌝ }
+{
+    if image.len() - at < 9 {
+        return Decoded::PastEnd;
+    }
+    read_name(image, at, op, word_at(image, at + 1))
+}
+
+// The instruction at an offset of the image.
+pub fn from_bytes(image: &[u8], at: usize) -> Decoded
+    ensures { λ r. ⌜ means r ≡ fromBytes (now (image .entry)) at ⌝ }
+{
+    if image.len() <= at {
+        return Decoded::Undefined;
+    }
+    let op = image[at] as u64;
+    match form(op) {
+        NONE => Decoded::Read(
+            Inst {
+                typ: op,
+                val: 0,
+                start: 0,
+                len: 0,
+            },
+            1,
+        ),
+        EIGHT => read_eight(image, at, op),
+        ONE => read_one(image, at, op),
+        NAME => read_named(image, at, op),
+        _ => Decoded::Undefined,
+    }
+}

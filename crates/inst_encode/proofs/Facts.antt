@@ -1,0 +1,45 @@
+-- How long a record's bytes are. Assumes nothing.
+use Prim.Native.Nat.{ℕ, zero, suc, _+_, _/_, _≤_}
+use mathlib.Core.Path.{_≡_, refl, ap}
+use mathlib.Core.Bool.{true, _&&_}
+use mathlib.Core.List.{List}
+use native.Mathlib.Omega.{arith}
+use lib.Dec.{eqb, leb}
+use lib.ListN.{length, length-take, length-drop}
+use borrow.Author.Tests.{eqb-true, leb-true}
+use Rattle.inst.specs.declared.Inst.{Inst}
+use Rattle.inst.specs.Forms.{Form, none, eight, one, name, undefined, formOf}
+use Rattle.inst.specs.Records.{part, nameIn, fits, wellFormed}
+use Rattle.inst.proofs.Laws.{never, and-left, and-right}
+use Rattle.inst_encode.specs.Encode.{bytesOf, operandBytes, asBytes, headSize, encodedSize}
+
+pub length-bytes : (k n : ℕ) → length (bytesOf k n) ≡ k
+unfolding bytesOf
+length-bytes zero n = refl
+length-bytes (suc k) n = ap suc (length-bytes k (n / 256))
+
+part-length : (image : List ℕ) (start len : ℕ) → start + len ≤ length image → length (part image start len) ≡ len
+part-length image start len h = simp (length-take, length-drop) (omega arith)
+
+module _ (image : List ℕ) (i : Inst) where
+  Sized : Form → Type 0
+  Sized f = (suc (length (operandBytes image i f)) ≡ headSize f + i .len) × (headSize f + i .len ≤ 9 + length image)
+
+  sized : (f : Form) → fits image i f ≡ true → Sized f
+  unfolding Sized fits nameIn operandBytes bytesOf headSize
+  sized none w = let z = eqb-true (i .len) 0 (and-right (eqb (i .val) 0 && eqb (i .start) 0) _ w) in (omega arith, omega arith)
+  sized eight w = let z = eqb-true (i .len) 0 (and-right (eqb (i .start) 0) _ w) in (omega arith, omega arith)
+  sized one w = let z = eqb-true (i .len) 0 (and-right (leb (i .val) 255 && eqb (i .start) 0) _ w) in (omega arith, omega arith)
+  sized name w =
+      let h = leb-true _ _ (and-left _ _ (and-right (eqb (i .val) 0) _ w)) in
+      let l = part-length image (i .start) (i .len) h in
+      (omega arith, omega arith)
+  sized undefined w = never w
+
+  pub size-is : wellFormed image i ≡ true → length (asBytes image i) ≡ encodedSize i
+  unfolding Sized wellFormed asBytes encodedSize
+  size-is w = sized (formOf (i .typ)) w .0
+
+  pub size-below : wellFormed image i ≡ true → encodedSize i ≤ 9 + length image
+  unfolding Sized wellFormed encodedSize
+  size-below w = sized (formOf (i .typ)) w .1

@@ -1,0 +1,50 @@
+-- Bytes of numbers and records, stored one after another. Assumes nothing.
+use Prim.Native.Nat.{ℕ, suc, _<_, _≤_, _+_, _-_, _/_, _%_}
+use mathlib.Core.Path.{_≡_, refl, _∙_}
+use mathlib.Core.List.{List, [], _∷_, _++_}
+use native.Mathlib.Nat.{add-zero, add-suc, suc-add}
+use native.Mathlib.Numerals.{add-one}
+use native.Mathlib.Omega.{arith}
+use lib.ListN.{length, set}
+use lib.Seq.{sets, sets-eq}
+use Rattle.inst.specs.declared.Inst.{Inst}
+use Rattle.inst.specs.Forms.{Form, none, eight, one, name, undefined, formOf, numberOf}
+use Rattle.inst_encode.specs.Encode.{bytesOf, operandBytes, asBytes, headSize, laid}
+
+-- what is left of a number's bytes
+pub bytes-next : (size i n : ℕ) → i < size → bytesOf (size - i) n ≡ n % 256 ∷ bytesOf (size - (i + 1)) (n / 256)
+unfolding bytesOf
+bytes-next size i n h = let e : size - i ≡ suc (size - (i + 1)) = omega arith in rw e
+
+pub bytes-end : (size i n : ℕ) → size ≤ i → bytesOf (size - i) n ≡ []
+unfolding bytesOf
+bytes-end size i n h = let e : size - i ≡ 0 = omega arith in rw e
+
+-- one store of a run of stores
+pub stored : (l rest whole vs : List ℕ) (at i x : ℕ) → vs ≡ x ∷ rest → sets l (at + i) vs ≡ whole → sets (set l (at + i) x) (at + (i + 1)) rest ≡ whole
+stored l rest whole vs at i x e h = let n : at + (i + 1) ≡ suc (at + i) = omega arith in rw n (rw e at h)
+
+-- stores behind stores
+pub sets-more : (vs l ws : List ℕ) (i : ℕ) → sets (sets l i vs) (i + length vs) ws ≡ sets l i (vs ++ ws)
+sets-more [] l ws i = rw add-zero
+sets-more (v ∷ vs) l ws i = rw (add-suc, ← suc-add i (length vs)) (sets-more vs (set l i v) ws (suc i))
+
+pub stored-both : (l l₁ l₂ vs ws : List ℕ) (at n : ℕ) → length vs ≡ n → l₁ ≡ sets l at vs → l₂ ≡ sets l₁ (at + n) ws → l₂ ≡ sets l at (vs ++ ws)
+stored-both l l₁ l₂ vs ws at n e p q = q ∙ rw (p, ← e) (sets-more vs l ws at)
+
+-- the first byte, then the operand
+pub laid-both : (out out′ bytes ops : List ℕ) (at op : ℕ) → bytes ≡ op ∷ ops → at + length bytes ≤ length out → out′ ≡ sets (set out at op) (at + 1) ops → out′ ≡ laid out at bytes
+laid-both out out′ bytes ops at op e h p = p ∙ rw (add-one, e) (sets-eq (op ∷ ops) out at (rw e at h))
+
+-- a record's bytes by its form, and what has no operand
+pub bytes-are : (image : List ℕ) (i : Inst) (f : Form) → formOf (i .typ) ≡ f → asBytes image i ≡ i .typ ∷ operandBytes image i f
+unfolding asBytes
+bytes-are image i f e = rw e
+
+pub no-operand : (image : List ℕ) (i : Inst) (f : Form) (n : ℕ) → n ≡ numberOf f → (n ≡ 2 → ⊥) → (n ≡ 3 → ⊥) → (n ≡ 4 → ⊥) → (operandBytes image i f ≡ []) × (headSize f ≡ 1)
+unfolding numberOf operandBytes headSize
+no-operand image i none n e p q r = (refl, refl)
+no-operand image i eight n e p q r = absurd (p e)
+no-operand image i one n e p q r = absurd (q e)
+no-operand image i name n e p q r = absurd (r e)
+no-operand image i undefined n e p q r = (refl, refl)

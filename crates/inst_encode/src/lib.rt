@@ -1,0 +1,92 @@
+// Encoding one well-formed record (Inst::as_bytes of mm's inst.rs), straight into the output.
+ghost use mathlib.Core.Path.{_≡_};
+ghost use mathlib.Core.Bool.{true};
+ghost use mathlib.Core.List.{_++_};
+ghost use Prim.Native.Nat.{_+_, _≤_, _<_, _^_};
+ghost use lib.ListN.{length};
+ghost use lib.Seq.{sets};
+ghost use Rattle.inst.specs.Records.{part, wellFormed};
+ghost use Rattle.inst_encode.specs.Encode.{bytesOf, asBytes, encodedSize, laid};
+use inst::EIGHT;
+use inst::Inst;
+use inst::NAME;
+use inst::ONE;
+use inst::form;
+
+// The `size` lowest bytes of a number from `at` on, the lowest first.
+fn put_number(out: &mut [u8], at: usize, size: usize, number: u64)
+    requires { ⌜ at + size ≤ length (now out) ⌝ }
+    ensures { λ r. ⌜ now (out .exit) ≡ sets (now (out .entry)) at (bytesOf size number) ⌝ }
+{
+    let mut i = 0;
+    let mut left = number;
+    while i < size {
+        out[at + i] = (left % 256) as u8;
+        left = left / 256;
+        i += 1;
+    }
+}
+
+// The bytes of a name from `at` on.
+fn put_name(out: &mut [u8], at: usize, name: &[u8])
+    requires { ⌜ at + length (now name) ≤ length (now out) ⌝ }
+    ensures { λ r. ⌜ now (out .exit) ≡ sets (now (out .entry)) at (now (name .entry)) ⌝ }
+{
+    let mut i = 0;
+    while i < name.len() {
+        out[at + i] = name[i];
+        i += 1;
+    }
+}
+
+// A name's length field and its bytes.
+fn put_named(out: &mut [u8], at: usize, image: &[u8], start: u64, len: u64)
+    requires { ⌜ start + len ≤ length (now image) ⌝ }
+    requires { ⌜ at + 8 + len ≤ length (now out) ⌝ }
+    ensures { λ r. ⌜ now (out .exit) ≡ sets (now (out .entry)) at (bytesOf 8 len ++ part (now (image .entry)) start len) ⌝ }
+{
+    put_number(out, at, 8, len);
+    let from = start as usize;
+    let to = from + len as usize;
+    put_name(out, at + 8, &image[from..to]);
+}
+
+// How many bytes a well-formed record's encoding has: at most 9 more than its image, so the sum fits.
+pub fn encoded_len(inst: Inst) -> usize
+    requires { ⌜ encodedSize inst < 2 ^ 64 ⌝ }
+    ensures { λ r. ⌜ r ≡ encodedSize inst ⌝ }
+{
+    let len = inst.len as usize;
+    match form(inst.typ) {
+        EIGHT => 9 + len,
+        ONE => 2 + len,
+        NAME => 9 + len,
+        _ => 1 + len,
+    }
+}
+
+// Writes a record's bytes from `at` on and returns how many they are. The rest of the output stays.
+// Only the encoder calls it, and proves both: it tests the record, and the room for all before it writes the first.
+pub fn as_bytes(image: &[u8], inst: Inst, out: &mut [u8], at: usize) -> usize
+    requires { ⌜ wellFormed (now image) inst ≡ true ⌝ }
+    requires { ⌜ at + length (asBytes (now image) inst) ≤ length (now out) ⌝ }
+    ensures { λ r. ⌜ r ≡ length (asBytes (now (image .entry)) inst) ⌝ }
+    ensures { λ r. ⌜ now (out .exit) ≡ laid (now (out .entry)) at (asBytes (now (image .entry)) inst) ⌝ }
+{
+    out[at] = inst.typ as u8;
+    match form(inst.typ) {
+        EIGHT => {
+            put_number(out, at + 1, 8, inst.val);
+            9
+        }
+        ONE => {
+            put_number(out, at + 1, 1, inst.val);
+            2
+        }
+        NAME => {
+            put_named(out, at + 1, image, inst.start, inst.len);
+            9 + inst.len as usize
+        }
+        _ => 1,
+    }
+}

@@ -1,0 +1,63 @@
+-- The history of demand 3, as document 01 has it: fed the image, what the loader's definition gives for it, and a number of steps.
+use Prim.Native.Nat.{ℕ, zero, suc, _<_}
+use mathlib.Core.Path.{_≡_}
+use mathlib.Core.Bool.{Bool, true, false, cond}
+use mathlib.Core.List.{List, [], _∷_, _++_, map}
+use lib.IntN.{ℤ, pos, _+ℤ_}
+use lib.ListN.{take}
+use Rattle.machine.specs.declared.Machine.{Machine}
+use Rattle.machine.specs.Load.{Loaded, fresh, countOf}
+use Rattle.machine.specs.Lookup.{Program}
+use Rattle.machine.specs.Step.{Stepped, next, dumps, trap, ill, opOf, instAt, step}
+use Rattle.machine.specs.Effects.{Outcome, untrapped, trapped, Effects, effects, effect, openCalls}
+
+-- a machine, a height, a list of open calls (those not yet returned from) and a list of dumps
+pub record State : Type 0 where
+  pub machine : Machine
+  pub height : ℤ
+  pub open-calls : List ℕ
+  pub dumps : List ℕ
+
+-- at first the fresh machine, 0 and two empty lists
+unfoldable pub start : Loaded → State
+start l = record { machine = fresh l; height = pos 0; open-calls = []; dumps = [] }
+
+-- a history's end, or no history: an n that it can't reach has none
+pub data History : Type 0 where
+  none : History
+  end : State → History
+
+-- After a step of an instruction with the effects e that left the machine m: the height gains the listed effect, the open calls change as listed by the
+-- step's own index, and the dumped cells are put last.
+unfoldable pub advance : State → Effects → Outcome → Machine → List ℕ → State
+advance s e o m cells =
+    record {
+      machine = m;
+      height = s .height +ℤ effect e o;
+      open-calls = openCalls (e .on-calls) o (s .machine .ip) (s .open-calls);
+      dumps = s .dumps ++ cells;
+    }
+
+-- always with room for a dump; none where 34 holds
+unfoldable pub stepped : State → Effects → Stepped → History
+stepped s e (next m) = end (advance s e untrapped m [])
+stepped s e (dumps c m m') = end (advance s e untrapped m' (c ∷ []))
+stepped s e (trap t m) = end (advance s e (trapped t) m [])
+stepped s e (ill m) = none
+
+-- the program as loaded: the loader's lists and no more
+abbrev pub programOf : List ℕ → Loaded → Program
+programOf image l = record { image = image; insts = l .insts; labels = l .labels; count = countOf l }
+
+-- the effects listed for the instruction at the pointer
+abbrev pub effectsAt : Program → Machine → Effects
+effectsAt p m = effects (opOf (instAt p m .typ))
+
+-- one step more; none from a halted machine
+unfoldable pub further : Program → History → History
+further p none = none
+further p (end s) = cond (s .machine .halted) none (stepped s (effectsAt p (s .machine)) (step p (s .machine)))
+
+unfoldable pub history : List ℕ → Loaded → ℕ → History
+history image l zero = end (start l)
+history image l (suc n) = further (programOf image l) (history image l n)

@@ -1,0 +1,12 @@
+pub mod Limits
+pub mod Load
+pub mod Lookup
+pub mod Change
+pub mod Step
+pub mod Run
+pub mod Effects
+pub mod History
+pub mod Encode
+pub mod Statements
+pub mod Marks
+pub mod Theorems

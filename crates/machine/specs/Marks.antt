@@ -1,0 +1,68 @@
+-- Document 01's marks M1 to M10, as one table over the step's definition.
+use Prim.Native.Nat.{ℕ}
+use mathlib.Core.Bool.{Bool, true, false, not, _&&_}
+use mathlib.Core.List.{List, [], _∷_, _++_}
+use lib.Dec.{eqb}
+use lib.ListN.{length, replicate}
+use Rattle.flag.specs.Flags.{isSet}
+use Rattle.inst.specs.Records.{plain}
+use Rattle.machine.specs.declared.Machine.{Machine}
+use Rattle.machine.specs.Lookup.{noLabel}
+use Rattle.machine.specs.Change.{top}
+use Rattle.machine.specs.Step.{Stepped, next, dumps, trap, ill, opOf, exec}
+
+-- a machine with these cells, the last on top, and 7 at address 1,023
+unfoldable pub on : List ℕ → Machine
+on cells =
+    record { stack = cells; height = length cells; calls = []; depth = 0; memory = replicate 1023 0 ++ (7 ∷ []); flags = 0; ip = 0; halted = false }
+
+-- what a mark asks of a step: this cell on top, this trap, or the flag clear that the jump with this first byte tests
+pub data Asked : Type 0 where
+  cell traps clear : ℕ → Asked
+
+unfoldable pub answers : Asked → Stepped → Bool
+answers (cell c) (next m) = eqb (top m) c
+answers (cell c) (dumps x m m') = false
+answers (cell c) (trap t m) = false
+answers (cell c) (ill m) = false
+answers (traps n) (next m) = false
+answers (traps n) (dumps x m m') = false
+answers (traps n) (trap t m) = eqb t n
+answers (traps n) (ill m) = false
+answers (clear jump) (next m) = not (isSet (m .flags) jump)
+answers (clear jump) (dumps x m m') = false
+answers (clear jump) (trap t m) = false
+answers (clear jump) (ill m) = false
+
+-- a first byte, the cells that its instruction finds, and what is asked
+pub record Mark : Type 0 where
+  pub typ : ℕ
+  pub cells : List ℕ
+  pub asked : Asked
+
+abbrev pub mark : ℕ → List ℕ → Asked → Mark
+mark typ cells asked = record { typ = typ; cells = cells; asked = asked }
+
+unfoldable pub marks : List Mark
+marks =
+    -- M1 DEC, M2 INC, M3 IMUL 2^40 × 2^23, M4 IDIV -7 by 2
+    mark 4 (0xFFF2FFFFFFFFFFFF ∷ []) (cell 0xFFF2000000000000)
+    ∷ mark 3 (0x7FF2FFFFFFFFFFFF ∷ []) (cell 0x7FF2000000000000)
+    ∷ mark 7 (0x7FF2010000000000 ∷ 0x7FF2000000800000 ∷ []) (cell 0xFFF2000000000000)
+    ∷ mark 8 (0xFFF2000000000007 ∷ 0x7FF2000000000002 ∷ []) (cell 0xFFF2000000000003)
+    -- M5 F2U of infinity, M6 F2I of -0.5, M7 and M8 U2F
+    ∷ mark 32 (0x7FF0000000000000 ∷ []) (cell 0xFFF3000000000001)
+    ∷ mark 31 (0xBFE0000000000000 ∷ []) (cell 0x7FF2000000000000)
+    ∷ mark 36 (0xFFF3000000000400 ∷ []) (cell 0x43F0000000000000)
+    ∷ mark 36 (0xFFF3000000000401 ∷ []) (cell 0x43EFFFFFFFFFFFFF)
+    -- M9 address 1,023 reads, 1,024 traps
+    ∷ mark 38 (0x7FF30000000003FF ∷ []) (cell 0x7FF3000000000007)
+    ∷ mark 38 (0x7FF3000000000400 ∷ []) (traps 25)
+    -- M10 equal cells: GE and LE clear
+    ∷ mark 9 (0x7FF2000000000005 ∷ 0x7FF2000000000005 ∷ []) (clear 16)
+    ∷ mark 9 (0x7FF2000000000005 ∷ 0x7FF2000000000005 ∷ []) (clear 14)
+    ∷ []
+
+unfoldable pub allHold : List Mark → Bool
+allHold [] = true
+allHold (k ∷ ks) = answers (k .asked) (exec noLabel (plain (k .typ) 0) (on (k .cells)) (opOf (k .typ))) && allHold ks

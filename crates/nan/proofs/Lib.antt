@@ -1,0 +1,4 @@
+mod Laws
+mod Words
+pub mod Bounds
+mod Examples
