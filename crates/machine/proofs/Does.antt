@@ -10,7 +10,7 @@ use lib.IntN.{ℤ, pos, negsuc, negℤ, _+ℤ_}
 use lib.ListN.{getD, set}
 use borrow.Author.Tests.{ltb-true, leb-true}
 use Rattle.flag.specs.Flags.{isSet}
-use Rattle.nan.specs.Cells.{inc, dec}
+use Rattle.integer.specs.Integers.{inc, dec}
 use Rattle.inst.specs.declared.Inst.{Inst}
 use Rattle.machine.specs.declared.Machine.{Machine}
 use Rattle.machine.specs.Limits.{stackLimit, callLimit}

@@ -4,11 +4,12 @@ use mathlib.Core.Bool.{true}
 use Rattle.float64.specs.Rounding.{count, roundPattern}
 use Rattle.float64.specs.Binary64.{value, signedWhole, unsignedWhole, toI64, toU64, ofWhole, negative, belowZero}
 use Rattle.nan.specs.Cells as nan
+use Rattle.integer.specs.Integers.{inc, dec, imul, quotient, idiv}
 use Rattle.flag.specs.Flags.{cmp, isSet}
 use Rattle.machine.specs.Change.{withStack, withFlags, moved}
 use Rattle.machine.specs.Step.{_must_else_then_, opOf, numberOf, minus, adjust, ofCells, divides, integerStep, ruleOf, convert, compare, read, exec}
 use Rattle.machine.specs.Marks.{on, answers, marks, allHold}
 
 pub marks-hold : allHold marks ≡ true
-unfolding on answers marks allHold withStack withFlags moved _must_else_then_ opOf numberOf minus adjust ofCells divides integerStep ruleOf convert compare read exec cmp isSet count roundPattern value signedWhole unsignedWhole toI64 toU64 ofWhole negative belowZero nan.typeOf nan.tagged nan.value nan.modulo64 nan.signed nan.asU64 nan.boxed nan.inc nan.dec nan.imul nan.quotient nan.idiv
+unfolding on answers marks allHold withStack withFlags moved _must_else_then_ opOf numberOf minus adjust ofCells divides integerStep ruleOf convert compare read exec cmp isSet count roundPattern value signedWhole unsignedWhole toI64 toU64 ofWhole negative belowZero nan.typeOf nan.tagged nan.value nan.modulo64 nan.signed nan.asU64 nan.boxed inc dec imul quotient idiv
 marks-hold = refl

@@ -8,7 +8,8 @@ use lib.ListN.{length, getD}
 use Rattle.float64.specs.Binary64.{sumBits, differenceBits, productBits, quotientBits, toI64, toU64, ofWhole, belowZero}
 use Rattle.nan.specs.declared.CellType.{CellType}
 use Rattle.nan.specs.declared.CellType.the-variants.{F64, I64, U64, Ptr, Unknown}
-use Rattle.nan.specs.Cells.{typeOf, value, asU64, fromI64, fromU64, inc, dec, iadd, isub, imul, idiv}
+use Rattle.nan.specs.Cells.{typeOf, value, asU64, fromI64, fromU64}
+use Rattle.integer.specs.Integers.{inc, dec, iadd, isub, imul, idiv}
 use Rattle.flag.specs.Flags.{cmp, isSet}
 use Rattle.inst.specs.declared.Inst.{Inst}
 use Rattle.inst.specs.Records.{wellFormed}

@@ -1,16 +1,12 @@
--- Worked examples of the definitions, computed. M1 to M4 are document 01's marks.
+-- Worked examples of the definitions, computed.
 -- Assumes nothing.
 use mathlib.Core.Path.{_≡_, refl}
 use lib.IntN.{negsuc}
 use Rattle.nan.specs.declared.CellType.the-variants.{F64, I64, U64, Ptr, Unknown}
-use Rattle.nan.specs.Cells.{tagged, typeOf, value, modulo64, signed, asU64, boxed, fromI64, fromU64, inc, dec, imul, quotient, idiv}
+use Rattle.nan.specs.Cells.{tagged, typeOf, value, modulo64, signed, asU64, boxed, fromI64, fromU64}
 
 examples :
-    (dec 0xFFF2FFFFFFFFFFFF ≡ 0xFFF2000000000000)  -- M1
-    × (inc 0x7FF2FFFFFFFFFFFF ≡ 0x7FF2000000000000)  -- M2
-    × (imul 0x7FF2010000000000 0x7FF2000000800000 ≡ 0xFFF2000000000000)  -- M3: 2 ^ 40 by 2 ^ 23
-    × (idiv 0xFFF2000000000007 0x7FF2000000000002 ≡ 0xFFF2000000000003)  -- M4: -7 by 2
-    × (asU64 0xFFF2000000000001 ≡ 0xFFFFFFFFFFFFFFFF)
+    (asU64 0xFFF2000000000001 ≡ 0xFFFFFFFFFFFFFFFF)
     × (asU64 0xFFF2000000000000 ≡ 0)
     × (fromU64 0xFFFFFFFFFFFFFFFF ≡ 0xFFF3000000000001)
     × (fromI64 (negsuc 0x7FFFFFFFFFFFFFFF) ≡ 0xFFF2000000000000)  -- -2 ^ 63
@@ -20,5 +16,5 @@ examples :
     × (typeOf 0x7FF3000000000000 ≡ U64)
     × (typeOf 0x7FF4000000000000 ≡ Ptr)
     × (typeOf 0x7FF8000000000000 ≡ Unknown)
-unfolding tagged typeOf value modulo64 signed asU64 boxed inc dec imul quotient idiv
-examples = (refl, refl, refl, refl, refl, refl, refl, refl, refl, refl, refl, refl, refl, refl)
+unfolding tagged typeOf value modulo64 signed asU64 boxed
+examples = (refl, refl, refl, refl, refl, refl, refl, refl, refl, refl)

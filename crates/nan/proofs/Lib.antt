@@ -1,4 +1,3 @@
-mod Laws
-mod Words
+pub mod Laws
 pub mod Bounds
 mod Examples

@@ -1,7 +1,7 @@
-// Cells (NaNBox of mm's nan.rs): the type and the value that 64 bits hold, cells made of numbers, and the integer
-// operations of two cells. Masks and shifts of mm are written as remainders and quotients by powers of two.
+// Cells (NaNBox of mm's nan.rs): the type and the value that 64 bits hold, and cells made of numbers. Masks and
+// shifts of mm are written as remainders and quotients by powers of two.
 ghost use mathlib.Core.Path.{_≡_};
-ghost use Prim.Native.Nat.{_*_, _%_, _^_, _≤_, _<_};
+ghost use Prim.Native.Nat.{_≤_};
 ghost use Rattle.nan.specs.Cells as cells;
 
 // bit 63
@@ -9,9 +9,6 @@ const SIGN: u64 = 0x8000000000000000;
 
 // one more than the largest magnitude, which has 48 bits
 const VALUES: u64 = 0x1000000000000;
-
-// one more than the largest half of a word
-const HALF: u64 = 0x100000000;
 
 pub enum CellType {
     F64,
@@ -70,7 +67,7 @@ fn set_value(top: u64, v: i64) -> u64
 }
 
 // A word taken as signed.
-fn signed(n: u64) -> i64
+pub fn signed(n: u64) -> i64
     ensures { λ r. ⌜ r ≡ cells.signed n ⌝ }
 {
     if n < SIGN {
@@ -90,51 +87,4 @@ pub fn from_u64(n: u64) -> u64
     ensures { λ r. ⌜ r ≡ cells.fromU64 n ⌝ }
 {
     set_value(0x7FF3, signed(n))
-}
-
-pub fn inc(cell: u64) -> u64
-    ensures { λ r. ⌜ r ≡ cells.inc cell ⌝ }
-{
-    from_i64(get_value(cell) + 1)
-}
-
-pub fn dec(cell: u64) -> u64
-    ensures { λ r. ⌜ r ≡ cells.dec cell ⌝ }
-{
-    from_i64(get_value(cell) - 1)
-}
-
-pub fn iadd(a: u64, b: u64) -> u64
-    ensures { λ r. ⌜ r ≡ cells.iadd a b ⌝ }
-{
-    from_i64(get_value(a) + get_value(b))
-}
-
-pub fn isub(a: u64, b: u64) -> u64
-    ensures { λ r. ⌜ r ≡ cells.isub a b ⌝ }
-{
-    from_i64(get_value(a) - get_value(b))
-}
-
-// The product of two words modulo 2^64, by halves of 32 bits: of the upper halves nothing is left, and of the two
-// products of an upper and a lower half only their lower halves.
-fn wrapping_mul(a: u64, b: u64) -> u64
-    ensures { λ r. ⌜ r ≡ a * b % 2 ^ 64 ⌝ }
-{
-    let upper = (a / HALF) * (b % HALF) % HALF + (a % HALF) * (b / HALF) % HALF;
-    std::num::wrapping_add_u64((a % HALF) * (b % HALF), upper % HALF * HALF)
-}
-
-pub fn imul(a: u64, b: u64) -> u64
-    ensures { λ r. ⌜ r ≡ cells.imul a b ⌝ }
-{
-    from_i64(signed(wrapping_mul(as_u64(a), as_u64(b))))
-}
-
-// The divisor's value isn't 0, which our own step proves: its trap 24 comes first.
-pub fn idiv(a: u64, b: u64) -> u64
-    requires { ⌜ 0 < b % 2 ^ 48 ⌝ }
-    ensures { λ r. ⌜ r ≡ cells.idiv a b ⌝ }
-{
-    from_i64(get_value(a) / get_value(b))
 }

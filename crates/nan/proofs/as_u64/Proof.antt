@@ -2,7 +2,7 @@
 -- Assumes nothing.
 use native.Mathlib.Omega.{arith}
 use Rattle.nan.specs.Cells.{asU64, value, modulo64}
-use Rattle.nan.proofs.Words.{negated}
+use Rattle.nan.proofs.Laws.{negated}
 use borrow.Author.Tests.{le-leb, lt-leb}
 use borrow.Author.Needs.{needs}
 use Rattle.nan.proofs.as_u64.Statement.{statement}

@@ -1,0 +1,3 @@
+mod Laws
+mod Words
+mod Examples
