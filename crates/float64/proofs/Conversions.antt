@@ -17,8 +17,7 @@ use lib.Ieee.Nearest.{div-same}
 use Rattle.float64.proofs.Decode.{Means, not-number, endless, number, read}
 use Rattle.float64.proofs.Encode.{round-bits}
 use Rattle.float64.proofs.Operations.{ltb-same}
-use Rattle.float64.specs.Binary64.{Value, finite, value, signedWhole, unsignedWhole, negative, toI64, toU64, belowZero, ofWhole}
-use Rattle.float64.specs.Theorems.{WholeIsExact}
+use Rattle.binary64.specs.Binary64.{Value, finite, value, signedWhole, unsignedWhole, negative, toI64, toU64, belowZero, ofWhole}
 
 no : {X : Type 0} → false ≡ true → X
 no e = absurd (subst T (sym e) tt)
@@ -157,7 +156,7 @@ is-whole n (number s u m e a) v =
     ∙ ap (finite false) (eq-of-mul-eq-mul-right (down e) (down-pos e) u (n * 2 ^ 1074)
     (sym a ∙ ap (λ (z : ℕ). z * 2 ^ 1074) (sym (mul-one (m * up e)) ∙ v .1) ∙ mul-right-comm n (down e) (2 ^ 1074)))
 
-pub whole-exact : WholeIsExact
+pub whole-exact : (n : ℕ) → n ≤ 2 ^ 53 → value (ofWhole n) ≡ finite false (n * 2 ^ 1074)
 unfolding ofInt
 whole-exact n h =
     let y = round binary64 false n 1 in

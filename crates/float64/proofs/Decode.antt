@@ -10,8 +10,8 @@ use lib.IntN.{ℤ}
 use lib.Ieee.{Float, nan, inf, fin, binary64, up, down, odd, ofBits, ofFields, isNan}
 use lib.Ieee.Bits.{nanBits-is, nanBits-above, cond-no}
 use lib.Ieee.Exact.{HasValue, odd-sign}
-use Rattle.float64.specs.Rounding.{units, fieldUnits}
-use Rattle.float64.specs.Binary64.{infinity, Value, notANumber, infinite, finite, value}
+use Rattle.binary64.specs.Rounding.{units, fieldUnits}
+use Rattle.binary64.specs.Binary64.{infinity, Value, notANumber, infinite, finite, value}
 
 -- the value p of a pattern is the library's x
 pub data Means : Value → Float → Type 0 where

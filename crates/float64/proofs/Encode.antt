@@ -13,11 +13,11 @@ use lib.Ieee.Digits.{size-lt, size-le}
 use lib.Ieee.Fits.{down-pos, round-is}
 use lib.Ieee.Exact.{HasValue, odd-sign}
 use lib.Ieee.Nearest.{closest, closest-same, div-same}
-use Rattle.float64.proofs.Library.{pattern-is}
-use Rattle.float64.proofs.Unbounded.{lt-or-ge, carried, dropped, unit, kept-le, kept-ge}
-use Rattle.float64.proofs.Bounded.{units-le, units-lt, min-left, min-right}
-use Rattle.float64.specs.Rounding.{units, roundPattern}
-use Rattle.float64.specs.Binary64.{infinity, signed, exactly, rounded}
+use Rattle.binary64.proofs.Library.{pattern-is}
+use Rattle.binary64.proofs.Unbounded.{lt-or-ge, carried, dropped, unit, kept-le, kept-ge}
+use Rattle.binary64.proofs.Bounded.{units-le, units-lt, min-left, min-right}
+use Rattle.binary64.specs.Rounding.{units, roundPattern}
+use Rattle.binary64.specs.Binary64.{infinity, signed, exactly, rounded}
 
 -- ---- v's digits as `toBits` writes them, for v = q * 2 ^ k
 size-gt : (n j : ℕ) → 2 ^ j ≤ n → j < size n

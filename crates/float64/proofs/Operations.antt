@@ -12,7 +12,7 @@ use lib.Ieee.{Float, nan, inf, fin, binary64, up, down, size, round, toBits, neg
 use lib.Ieee.Fits.{down-pos, up-pos, eq→eqb}
 use Rattle.float64.proofs.Decode.{Means, not-number, endless, number, read}
 use Rattle.float64.proofs.Encode.{round-bits, pattern-same, infinite-bits}
-use Rattle.float64.specs.Binary64.{infinity, quiet, signed, rounded, exactly, exactSum, exactProduct, exactQuotient, unlike, Value, sum, opposite, product, quotient, sumBits, differenceBits, productBits, quotientBits}
+use Rattle.binary64.specs.Binary64.{infinity, quiet, signed, rounded, exactly, exactSum, exactProduct, exactQuotient, unlike, Value, sum, opposite, product, quotient, sumBits, differenceBits, productBits, quotientBits}
 
 same-test : (a b : Bool) → (T a → T b) → (T b → T a) → a ≡ b
 same-test true true p q = refl

@@ -1,9 +1,10 @@
 // IEEE 754's binary64 on bit patterns: the four operations and the conversions, each with the
-// definition of specs/Binary64.antt as its contract. Every NaN result is 0x7ff8000000000000.
+// definition of crate binary64 as its contract. Every NaN result is 0x7ff8000000000000.
 ghost use mathlib.Core.Path.{_≡_};
+ghost use mathlib.Core.Bool.{false};
+ghost use Prim.Native.Nat.{_*_, _^_, _≤_};
 ghost use lib.Ieee.{binary64, ofBits, toBits};
-ghost use Rattle.float64.specs.Binary64.{isNaN, sumBits, differenceBits, productBits, quotientBits, toI64, toU64, ofWhole, belowZero};
-ghost use Rattle.float64.specs.Theorems.{Theorems};
+ghost use Rattle.binary64.specs.Binary64.{value, finite, isNaN, sumBits, differenceBits, productBits, quotientBits, toI64, toU64, ofWhole, belowZero};
 
 // Whether it is a NaN's bit pattern.
 pub fn is_nan(a: u64) -> bool
@@ -88,13 +89,14 @@ pub fn to_u64(a: u64) -> u64
             18446744073709551615
         }
     } else {
-        0
+        0 // a NaN, or at most -1
     }
 }
 
-// The double nearest to n, ties to even.
+// The double nearest to n, ties to even: n itself where it has at most 53 digits.
 pub fn from_u64(n: u64) -> u64
-    ensures { λ r. ⌜ r ≡ ofWhole n ⌝ }
+    ensures rounds { λ r. ⌜ r ≡ ofWhole n ⌝ }
+    ensures exact { λ r. ⌜ (n ≤ 2 ^ 53 → value r ≡ finite false (n * 2 ^ 1074)) ⌝ }
 {
     pattern(std::num::nearest_u64_to_f64(n))
 }
@@ -105,8 +107,3 @@ pub fn is_below_zero(a: u64) -> bool
 {
     value(a) < 0.0
 }
-
-// No code: its contract states the theorems on rounding.
-pub fn rounding_theorems()
-    ensures { λ _. ⌜ Theorems ⌝ }
-{}

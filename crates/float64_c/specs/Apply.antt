@@ -2,7 +2,7 @@
 use Prim.Native.Nat.{ℕ}
 use mathlib.Core.Bool.{Bool, cond}
 use lib.Dec.{eqb}
-use Rattle.float64.specs.Binary64.{sumBits, differenceBits, productBits, quotientBits, toU64, ofWhole, belowZero, isNaN}
+use Rattle.binary64.specs.Binary64.{sumBits, differenceBits, productBits, quotientBits, toU64, ofWhole, belowZero, isNaN}
 
 abbrev pub bit : Bool → ℕ
 bit b = cond b 1 0

@@ -1,7 +1,7 @@
 // The functions of `float64` under C's calling convention, for the oracle to link. They are called by a number, so
 // that one symbol serves.
 ghost use mathlib.Core.Path.{_≡_};
-ghost use Rattle.float64.specs.Binary64.{toI64};
+ghost use Rattle.binary64.specs.Binary64.{toI64};
 ghost use Rattle.float64_c.specs.Apply.{bit, applied};
 
 fn number(b: bool) -> u64

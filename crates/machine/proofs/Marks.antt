@@ -1,8 +1,8 @@
 -- The marks hold, by computation. Assumes nothing.
 use mathlib.Core.Path.{_≡_, refl}
 use mathlib.Core.Bool.{true}
-use Rattle.float64.specs.Rounding.{count, roundPattern}
-use Rattle.float64.specs.Binary64.{value, signedWhole, unsignedWhole, toI64, toU64, ofWhole, negative, belowZero}
+use Rattle.binary64.specs.Rounding.{count, roundPattern}
+use Rattle.binary64.specs.Binary64.{value, signedWhole, unsignedWhole, toI64, toU64, ofWhole, negative, belowZero}
 use Rattle.nan.specs.Cells as nan
 use Rattle.integer.specs.Integers.{inc, dec, imul, quotient, idiv}
 use Rattle.flag.specs.Flags.{cmp, isSet}

@@ -5,7 +5,7 @@ use mathlib.Core.List.{List, [], _∷_}
 use lib.Dec.{eqb, ltb, leb}
 use lib.IntN.{ℤ, pos, negsuc, natAbs}
 use lib.ListN.{length, getD}
-use Rattle.float64.specs.Binary64.{sumBits, differenceBits, productBits, quotientBits, toI64, toU64, ofWhole, belowZero}
+use Rattle.binary64.specs.Binary64.{sumBits, differenceBits, productBits, quotientBits, toI64, toU64, ofWhole, belowZero}
 use Rattle.nan.specs.declared.CellType.{CellType}
 use Rattle.nan.specs.declared.CellType.the-variants.{F64, I64, U64, Ptr, Unknown}
 use Rattle.nan.specs.Cells.{typeOf, value, asU64, fromI64, fromU64}

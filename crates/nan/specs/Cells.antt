@@ -4,7 +4,7 @@ use Prim.Native.Nat.{ℕ, suc, _+_, _-_, _*_, _/_, _%_, _^_}
 use mathlib.Core.Bool.{Bool, cond}
 use lib.Dec.{eqb, ltb, leb}
 use lib.IntN.{ℤ, pos, negsuc, negℤ}
-use Rattle.float64.specs.Binary64.{isNaN}
+use Rattle.binary64.specs.Binary64.{isNaN}
 use Rattle.nan.specs.declared.CellType.{CellType}
 use Rattle.nan.specs.declared.CellType.the-variants.{F64, I64, U64, Ptr, Unknown}
 

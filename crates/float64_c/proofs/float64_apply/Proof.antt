@@ -28,7 +28,7 @@ returns-5 c = simp (c .before .match .keys5) (c .to-u64 .ensures)
 
 returns-6 : tie.Need-returns-6
 unfolding applied
-returns-6 c = simp (c .before .match .keys6) (c .from-u64 .ensures)
+returns-6 c = simp (c .before .match .keys6) (c .from-u64 .ensures .0)
 
 returns-7 : tie.Need-returns-7
 unfolding applied

@@ -5,7 +5,7 @@ use mathlib.Core.Bool.{true}
 use Prim.Native.Nat.{ℕ, _/_, _%_, _^_}
 use borrow.Author.Needs.{needs}
 use borrow.Author.Tests.{ne-eqb}
-use Rattle.float64.specs.Binary64.{isNaN}
+use Rattle.binary64.specs.Binary64.{isNaN}
 use Rattle.nan.specs.Cells.{typeOf, tagged}
 use Rattle.nan.proofs.get_type.Statement.{statement}
 use Rattle.nan.proofs.get_type.Tie as tie

@@ -12,8 +12,8 @@ use lib.Ieee.{size}
 use lib.Ieee.Digits.{size-reaches, back}
 use lib.Ieee.Fits.{kept-lt, nearest-le}
 use lib.Ieee.Nearest.{closest, nearest-ge}
-use Rattle.float64.proofs.Closest.{closest-near, closest-tie}
-use Rattle.float64.specs.Rounding.{apart, fieldUnits, units}
+use Rattle.binary64.proofs.Closest.{closest-near, closest-tie}
+use Rattle.binary64.specs.Rounding.{apart, fieldUnits, units}
 
 pub lt-or-ge : (a b : ℕ) → (a < b) ⊎ (b ≤ a)
 lt-or-ge a b = go (ltb a b) (ltb→lt a b) (nltb→le a b)

@@ -5,9 +5,9 @@ use Prim.Native.Nat.{ℕ, zero, suc, _+_, _-_, _*_, _/_, _%_, _^_, _≤_, _<_, m
 use native.Mathlib.Nat.{le-refl, le-of-eq, le-of-lt, lt-trans, lt-of-lt-of-le, eq-or-lt-of-le, mul-le-mul-right, mul-lt-mul-of-pos-right, suc-mul, add-zero, add-suc, mod-lt, div-add-mod', mul-one, mul-assoc, pow-succ'}
 use native.Mathlib.Omega.{arith}
 use lib.Pow.{pow-pos}
-use Rattle.float64.proofs.Library.{pattern-is}
-use Rattle.float64.proofs.Unbounded.{lt-or-ge, units-at, free, free-near, free-even}
-use Rattle.float64.specs.Rounding.{apart, fieldUnits, units, NearestEven, roundPattern}
+use Rattle.binary64.proofs.Library.{pattern-is}
+use Rattle.binary64.proofs.Unbounded.{lt-or-ge, units-at, free, free-near, free-even}
+use Rattle.binary64.specs.Rounding.{apart, fieldUnits, units, NearestEven, roundPattern}
 
 -- ---- a larger pattern has more units
 field-step : (w x t : ℕ) → suc t < 2 ^ w → fieldUnits w x t < fieldUnits w x (suc t)

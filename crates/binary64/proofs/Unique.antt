@@ -4,9 +4,9 @@ use mathlib.Core.Logic.{inl, inr}
 use Prim.Native.Nat.{ℕ, suc, _+_, _*_, _%_, _≤_, _<_}
 use native.Mathlib.Nat.{le-refl, le-trans, le-of-eq, le-of-lt, le-antisymm, le-suc, lt-irrefl, lt-of-le-of-lt, le-of-suc-le-suc, eq-or-lt-of-le, mul-lt-mul-of-pos-right}
 use native.Mathlib.Omega.{arith}
-use Rattle.float64.proofs.Unbounded.{lt-or-ge}
-use Rattle.float64.proofs.Bounded.{units-lt}
-use Rattle.float64.specs.Rounding.{apart, units, NearestEven}
+use Rattle.binary64.proofs.Unbounded.{lt-or-ge}
+use Rattle.binary64.proofs.Bounded.{units-lt}
+use Rattle.binary64.specs.Rounding.{apart, units, NearestEven}
 
 module _ (w top n den : ℕ) (D : 0 < den) where
   unequal : (p q : ℕ) → p < q → NearestEven w top n den p → NearestEven w top n den q → ⊥

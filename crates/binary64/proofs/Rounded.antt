@@ -7,12 +7,11 @@ use mathlib.Core.Bool.{Bool, true, false, not, Bool·beq, cond}
 use borrow.Author.Tests.{ne-eqb}
 use lib.Dec.{ltb}
 use lib.Pow.{pow-pos}
-use Rattle.float64.proofs.Bounded.{round-nearest}
-use Rattle.float64.proofs.Unique.{unique, over, reaches}
-use Rattle.float64.proofs.Conversions.{whole-exact}
-use Rattle.float64.specs.Rounding.{units, roundPattern}
-use Rattle.float64.specs.Binary64.{infinity, Exact, exactSum, exactProduct, exactQuotient, rounded, sum, opposite, product, quotient, sumBits, differenceBits, productBits, quotientBits}
-use Rattle.float64.specs.Theorems.{Theorems, IsRounded, RoundsToNearestEven, OnlyOneIsNearestEven, OverflowsFrom, SumIsRounded, DifferenceIsRounded, ProductIsRounded, QuotientIsRounded}
+use Rattle.binary64.proofs.Bounded.{round-nearest}
+use Rattle.binary64.proofs.Unique.{unique, over, reaches}
+use Rattle.binary64.specs.Rounding.{units, roundPattern}
+use Rattle.binary64.specs.Binary64.{infinity, Exact, exactSum, exactProduct, exactQuotient, rounded, sum, opposite, product, quotient, sumBits, differenceBits, productBits, quotientBits}
+use Rattle.binary64.specs.Theorems.{Theorems, IsRounded, RoundsToNearestEven, OnlyOneIsNearestEven, OverflowsFrom, SumIsRounded, DifferenceIsRounded, ProductIsRounded, QuotientIsRounded}
 
 nearest : RoundsToNearestEven
 nearest n den D = round-nearest 52 infinity n den (omega arith) D
@@ -81,5 +80,4 @@ theorems = record {
   difference = difference-rounded;
   product = product-rounded;
   quotient = quotient-rounded;
-  whole = whole-exact;
 }

@@ -1,7 +1,7 @@
 -- The theorems of specs/Theorems hold.
-use Rattle.float64.proofs.Rounded.{theorems}
-use Rattle.float64.proofs.rounding_theorems.Statement.{statement}
-use Rattle.float64.proofs.rounding_theorems.Tie as tie
+use Rattle.binary64.proofs.Rounded.{theorems}
+use Rattle.binary64.proofs.rounding_theorems.Statement.{statement}
+use Rattle.binary64.proofs.rounding_theorems.Tie as tie
 
 returns : tie.Need-returns
 returns c = theorems

@@ -1,9 +1,9 @@
 -- What the rounding of Binary64 is, as statements. Definitions only: `rounding_theorems` in src/lib.rt states that they hold.
 use Prim.Native.Nat.{ℕ, _*_, _-_, _^_, _≤_, _<_}
 use mathlib.Core.Path.{_≡_}
-use mathlib.Core.Bool.{Bool, false}
-use Rattle.float64.specs.Rounding.{NearestEven, roundPattern}
-use Rattle.float64.specs.Binary64.{infinity, finite, value, signed, Exact, exactSum, exactDifference, exactProduct, exactQuotient, sumBits, differenceBits, productBits, quotientBits, ofWhole}
+use mathlib.Core.Bool.{Bool}
+use Rattle.binary64.specs.Rounding.{NearestEven, roundPattern}
+use Rattle.binary64.specs.Binary64.{infinity, finite, value, signed, Exact, exactSum, exactDifference, exactProduct, exactQuotient, sumBits, differenceBits, productBits, quotientBits}
 
 -- a fraction of units is rounded to a nearest pattern, and at a tie to an even one
 abbrev pub RoundsToNearestEven : Type 0
@@ -43,10 +43,6 @@ ProductIsRounded = OfFinite (λ a b s u t v. IsRounded (exactProduct s u t v) (p
 abbrev pub QuotientIsRounded : Type 0
 QuotientIsRounded = OfFinite (λ a b s u t v. 0 < v → IsRounded (exactQuotient s u t v) (quotientBits a b))
 
--- a whole number of at most 53 digits is kept
-abbrev pub WholeIsExact : Type 0
-WholeIsExact = (n : ℕ) → n ≤ 2 ^ 53 → value (ofWhole n) ≡ finite false (n * 2 ^ 1074)
-
 pub record Theorems : Type 0 where
   pub nearest : RoundsToNearestEven
   pub only-one : OnlyOneIsNearestEven
@@ -55,4 +51,3 @@ pub record Theorems : Type 0 where
   pub difference : DifferenceIsRounded
   pub product : ProductIsRounded
   pub quotient : QuotientIsRounded
-  pub whole : WholeIsExact

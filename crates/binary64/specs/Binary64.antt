@@ -3,7 +3,7 @@ use Prim.Native.Nat.{ℕ, _+_, _-_, _*_, _/_, _%_, _^_, min}
 use mathlib.Core.Bool.{Bool, true, false, not, _&&_, Bool·beq, cond}
 use lib.Dec.{leb, ltb, eqb}
 use lib.IntN.{ℤ, pos, negℤ}
-use Rattle.float64.specs.Rounding.{units, roundPattern}
+use Rattle.binary64.specs.Rounding.{units, roundPattern}
 
 -- the pattern of the positive infinity, and the one that every NaN result has
 abbrev pub infinity : ℕ

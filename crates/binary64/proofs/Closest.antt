@@ -9,7 +9,7 @@ use lib.Dec.{T, isLe, isEq, eqb, leb→le, nleb→lt, eqb→eq, eqb-refl}
 use lib.Arith.{lt-of-le-ne}
 use lib.Ieee.{nearest}
 use lib.Ieee.Nearest.{closest}
-use Rattle.float64.specs.Rounding.{apart}
+use Rattle.binary64.specs.Rounding.{apart}
 
 -- ---- what `compare` says
 abbrev pub Cmp : Ordering → ℕ → ℕ → Type 0

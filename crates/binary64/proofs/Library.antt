@@ -7,8 +7,8 @@ use borrow.Author.Tests.{lt-ltb, le-ltb}
 use lib.Ieee.{size, nearest}
 use lib.Ieee.Digits.{size-lt, size-le}
 use lib.Ieee.Nearest as Lib
-use Rattle.float64.proofs.Closest.{Cmp, cmp}
-use Rattle.float64.specs.Rounding.{count, closest, roundPattern}
+use Rattle.binary64.proofs.Closest.{Cmp, cmp}
+use Rattle.binary64.specs.Rounding.{count, closest, roundPattern}
 
 count-lt : (d n : ℕ) → n ≤ d → n < 2 ^ count d n
 unfolding count
