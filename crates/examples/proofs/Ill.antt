@@ -10,7 +10,7 @@ use Rattle.inst.specs.Records.{nameOk, nameIn, fits, wellFormed}
 use Rattle.machine.specs.declared.Machine.{Machine}
 use Rattle.machine.specs.declared.Label.{Label}
 use Rattle.machine.specs.Load.{same, head}
-use Rattle.machine.specs.Lookup.{Program, walk, lookupFrom, lookup}
+use Rattle.machine.specs.Lookup.{walk, lookupFrom, lookup}
 use Rattle.machine.specs.Change.{withCalls, moved}
 use Rattle.machine.specs.Step.{Stepped, next, dumps, trap, ill, _must_else_then_, opOf, jumpIf, jump, callTo, call, dump, exec, wellState, step}
 

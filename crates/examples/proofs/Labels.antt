@@ -4,17 +4,16 @@ use mathlib.Core.Path.{_≡_, refl, ap, _∙_, sym}
 use mathlib.Core.List.{List, [], _∷_, _++_}
 use native.Mathlib.Nat.{zero-add, suc-add}
 use native.Mathlib.Omega.{arith}
-use lib.Dec.{leb, ltb}
 use lib.ListN.{length, getD, take, drop, length-append}
 use lib.Seq.{drop-append-add, getD-drop, drop-drop}
 use borrow.Author.Tests.{lt-ltb, le-ltb, lt-leb, le-leb}
 use Rattle.inst.specs.declared.Inst.{Inst}
 use Rattle.inst.specs.Forms.{formOf, hasNone, hasEight, hasOne, hasName}
-use Rattle.inst.specs.Records.{nameOk, part, named}
+use Rattle.inst.specs.Records.{nameOk, named}
 use Rattle.inst_decode.specs.Decode.{reads, littleEndian, word, isNegative, readName, readOperand, fromBytes}
 use Rattle.machine.specs.declared.Label.{Label}
 use Rattle.machine.specs.Limits.{instLimit, labelRecords}
-use Rattle.machine.specs.Load.{head, linked, Scan, stops, begin, scanOne, andThen, scan, rejects, finished, loads}
+use Rattle.machine.specs.Load.{linked, Scan, stops, begin, scanOne, andThen, scan, rejects, finished, loads}
 
 -- LABEL with the empty name
 abbrev label : List ℕ

@@ -1,4 +1,5 @@
-pub mod Runs
-pub mod Nops
-pub mod Labels
-pub mod Ill
+mod Runs
+mod Nops
+mod Labels
+mod Ill
+mod Encode

@@ -1,9 +1,7 @@
 -- Number 5: an image of more than 4,096 NOPs is refused with it. By induction, as the reading is too long to compute. Assumes nothing.
 use Prim.Native.Nat.{ℕ, zero, suc, _+_, _≤_, _<_}
 use mathlib.Core.Path.{_≡_, refl, ap, _∙_}
-use mathlib.Core.List.{List, [], _∷_, _++_}
 use native.Mathlib.Omega.{arith}
-use lib.Dec.{leb, ltb}
 use lib.ListN.{length, replicate, length-replicate, getD-replicate, length-append}
 use borrow.Author.Tests.{lt-ltb, le-ltb, lt-leb, le-leb}
 use Rattle.inst.specs.Forms.{formOf, hasNone}

@@ -1,32 +1,30 @@
--- Computed examples: an accepted image run in several pieces, through demand 3, and a refused image for each number. Assumes nothing.
-use Prim.Native.Nat.{ℕ, zero, suc, _+_, _≤_, _<_}
-use mathlib.Core.Path.{_≡_, refl, _∙_, sym, ap}
-use mathlib.Core.Bool.{Bool, true, false, cond, _&&_}
+-- Computed examples: an accepted image run in several pieces, through demand 3, and refused images (5 and 6 in Nops and Labels). Assumes nothing.
+use Prim.Native.Nat.{ℕ, zero, suc, _≤_}
+use mathlib.Core.Path.{_≡_, refl, _∙_}
+use mathlib.Core.Bool.{Bool, true, _&&_}
 use mathlib.Core.List.{List, [], _∷_, _++_, map}
 use native.Mathlib.Omega.{arith}
-use lib.Dec.{ltb, leb, eqb}
+use lib.Dec.{ltb}
 use lib.IntN.{ℤ, pos}
-use lib.ListN.{length, getD, replicate}
+use lib.ListN.{length, replicate}
 use borrow.Author.Tests.{ltb-true}
-use Rattle.nan.specs.Cells as nan
 use Rattle.inst.specs.declared.Inst.{Inst}
 use Rattle.inst.specs.Forms.{formOf, hasNone, hasEight, hasOne, hasName}
 use Rattle.inst.specs.Records.{Bytes, nameOk, nameIn, fits, wellFormed}
 use Rattle.inst_decode.specs.Decode as decode
 use Rattle.inst_encode.specs.Encode.{bytesOf}
-use Rattle.machine.specs.declared.Machine.{Machine}
 use Rattle.machine.specs.declared.Label.{Label}
 use Rattle.machine.specs.declared.Ending.{Ending}
-use Rattle.machine.specs.declared.Ending.the-variants.{Halted, Limit, Full, Ill, Trapped}
-use Rattle.machine.specs.Load.{halt, same, startName, head, linked, scanOne, andThen, scan, lastOf, anyNative, lastIsHalt, closed, Loaded, Load, rejects, accepts, checked, entered, finished, loads, load, instsAfter, labelsAfter, fresh}
-use Rattle.machine.specs.Lookup.{Program, walk, lookupFrom, lookup}
+use Rattle.machine.specs.declared.Ending.the-variants.{Limit, Full, Trapped}
+use Rattle.machine.specs.Load.{same, startName, linked, scanOne, andThen, scan, lastOf, anyNative, lastIsHalt, closed, Loaded, Load, rejects, accepts, checked, entered, finished, loads, load, instsAfter, labelsAfter, fresh, countOf}
+use Rattle.machine.specs.Lookup.{walk, lookupFrom, lookup}
 use Rattle.machine.specs.Change.{withStack, withCalls, moved, stopped}
 use Rattle.machine.specs.Step.{_must_else_then_, opOf, push, pop, callTo, call, ret, dump, exec, wellState, step}
 use Rattle.machine.specs.Run.{follow, course, Result, reported, run, Request, runs, totalSteps, allDumped, lastMachine}
 use Rattle.machine.specs.Effects.{effects, lostAt, effect, dropLast, openCalls}
 use Rattle.machine.specs.History.{State, start, History, none, end, advance, stepped, further, history}
-use Rattle.machine.specs.Statements.{OneHistory, lent}
-use Rattle.inst.proofs.Laws.{and-left, and-right, never}
+use Rattle.machine.specs.Statements.{Agrees, lent}
+use Rattle.inst.proofs.Laws.{and-left, and-right}
 use Rattle.machine.proofs.Runs.{runs-are-one-history}
 
 -- images, written with the encoder's definitions
@@ -110,6 +108,10 @@ number (accepts l) = 0
 started : List ℕ → List ℕ
 started bytes = named 21 startName ++ bytes
 
+-- a CALL of a name that no label has
+lost : List ℕ
+lost = started (named 28 (103 ∷ []))
+
 record Computed : Type 0 where
   accepted : load image insts labels ≡ accepts loaded
   -- HALT is appended, so eleven
@@ -121,6 +123,8 @@ record Computed : Type 0 where
   -- inside f, one call is open; behind the dumps none, and the cell is popped
   inside : told (history image loaded 3) ≡ (2 ∷ [], pos 1, [])
   behind : told (history image loaded 10) ≡ ([], pos 0, five ∷ five ∷ [])
+  -- a CALL of no function, tried twice: an open call at each try, and its address stacked each time
+  retried : told (history lost (ofLoad (loads lost)) 3) ≡ (1 ∷ 1 ∷ [], pos 0, [])
   -- HALT is the last step of a history
   halted : history (started []) (ofLoad (loads (started []))) 3 ≡ none
   -- 2 first byte undefined, 3 operand past the end, 4 a name byte of 128, 7 no `_start`, 8 a NATIVE
@@ -131,7 +135,7 @@ record Computed : Type 0 where
   long : number (loads (replicate 16385 0)) ≡ 1
 
 computed : Computed
-unfolding image named loaded ofLoad insts labels bytesOf load loads same linked scanOne andThen scan lastOf anyNative lastIsHalt closed checked entered finished decode.fromBytes decode.readName decode.readOperand decode.littleEndian decode.typeOf decode.isNegative formOf hasNone hasEight hasOne hasName nameOk nameIn fits wellFormed requests results line report runs run reported course follow step wellState exec push pop callTo call ret dump _must_else_then_ opOf walk lookupFrom lookup withStack withCalls moved fresh lent instsAfter labelsAfter totalSteps allDumped told number started history start further stepped advance effects lostAt effect dropLast openCalls stopped
+unfolding image named loaded ofLoad insts labels bytesOf load loads same linked scanOne andThen scan lastOf anyNative lastIsHalt closed checked entered finished decode.fromBytes decode.readName decode.readOperand decode.littleEndian decode.typeOf decode.isNegative formOf hasNone hasEight hasOne hasName nameOk nameIn fits wellFormed requests results line report runs run reported course follow step wellState exec push pop callTo call ret dump _must_else_then_ opOf walk lookupFrom lookup withStack withCalls moved fresh lent instsAfter labelsAfter totalSteps allDumped told number started lost history start further stepped advance effects lostAt effect dropLast openCalls stopped
 computed =
     record {
       accepted = refl;
@@ -141,6 +145,7 @@ computed =
       dumped = refl;
       inside = refl;
       behind = refl;
+      retried = refl;
       halted = refl;
       refused = refl;
       short = refl;
@@ -153,3 +158,11 @@ unfolding results
 retold =
     let t = runs-are-one-history image insts labels loaded bytes (computed .accepted) requests in
     (t .last, rw (computed .steps) at (t .history-is), t .dumps-are ∙ computed .dumped, t .machine-is)
+
+-- and at every point of it height and return addresses are those counted
+counted : (k : ℕ) → k ≤ 10 → (s : State) × (history image loaded k ≡ end s) × Agrees 11 s
+unfolding results
+counted k h =
+    let t = runs-are-one-history image insts labels loaded bytes (computed .accepted) requests in
+    let c : countOf loaded ≡ 11 = computed .count in
+    rw c at (t .always k (rw (computed .steps) h))

@@ -1,7 +1,7 @@
 -- What the definition of from_bytes implies, for the crates above. Assumes nothing.
 use Prim.Native.Nat.{ℕ, _+_, _<_, _≤_}
 use mathlib.Core.Path.{_≡_, refl, _∙_, ap, sym, subst}
-use mathlib.Core.Bool.{Bool, true, false}
+use mathlib.Core.Bool.{true, false}
 use mathlib.Core.List.{List}
 use native.Mathlib.Omega.{arith}
 use lib.Dec.{eqb, ltb, leb, lit≤}

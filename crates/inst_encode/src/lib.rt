@@ -51,7 +51,8 @@ fn put_named(out: &mut [u8], at: usize, image: &[u8], start: u64, len: u64)
     put_name(out, at + 8, &image[from..to]);
 }
 
-// How many bytes a well-formed record's encoding has: at most 9 more than its image, so the sum fits.
+// How many bytes a well-formed record's encoding has: at most 9 more than its image, so the sum fits. Only the
+// encoder calls it, for records that it has found well formed.
 pub fn encoded_len(inst: Inst) -> usize
     requires { ⌜ encodedSize inst < 2 ^ 64 ⌝ }
     ensures { λ r. ⌜ r ≡ encodedSize inst ⌝ }

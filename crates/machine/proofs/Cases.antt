@@ -1,11 +1,9 @@
 -- Case distinctions by a test, and what a height loses. Assumes nothing.
-use Prim.Native.Nat.{ℕ, zero, suc, _+_, _-_, _≤_, _<_}
+use Prim.Native.Nat.{ℕ, zero, suc, _-_, _≤_}
 use mathlib.Core.Path.{_≡_, refl, sym}
-use mathlib.Core.Bool.{Bool, true, false, cond, _&&_}
-use native.Mathlib.Omega.{arith}
+use mathlib.Core.Bool.{Bool, true, false, _&&_}
 use native.Mathlib.Numerals.{unary-clauses}
-use lib.Dec.{ltb}
-use lib.IntN.{ℤ, pos, negsuc, negℤ, _+ℤ_, +ℤ-idr}
+use lib.IntN.{pos, negℤ, _+ℤ_, +ℤ-idr}
 use borrow.Author.Tests.{le-ltb}
 use Rattle.machine.specs.declared.Machine.{Machine}
 use Rattle.machine.specs.Change.{withStack, poppedBy}

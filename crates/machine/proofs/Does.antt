@@ -1,12 +1,12 @@
 -- What one step does, for each instruction and every machine: the effect on height, on the call stack and on the pointer, and what a trap leaves.
 -- Assumes nothing.
-use Prim.Native.Nat.{ℕ, zero, suc, _+_, _-_, _≤_, _<_}
+use Prim.Native.Nat.{ℕ, _+_, _-_, _≤_, _<_}
 use mathlib.Core.Path.{_≡_, refl, sym, ap, _∙_}
-use mathlib.Core.Bool.{Bool, true, false, cond}
+use mathlib.Core.Bool.{Bool, true, false}
 use mathlib.Core.List.{List, [], _∷_}
 use native.Mathlib.Omega.{arith}
-use lib.Dec.{eqb, ltb, leb}
-use lib.IntN.{ℤ, pos, negsuc, negℤ, _+ℤ_}
+use lib.Dec.{eqb}
+use lib.IntN.{ℤ, pos, negℤ, _+ℤ_}
 use lib.ListN.{getD, set}
 use borrow.Author.Tests.{ltb-true, leb-true}
 use Rattle.flag.specs.Flags.{isSet}
@@ -15,8 +15,8 @@ use Rattle.inst.specs.declared.Inst.{Inst}
 use Rattle.machine.specs.declared.Machine.{Machine}
 use Rattle.machine.specs.Limits.{stackLimit, callLimit}
 use Rattle.machine.specs.Lookup.{Program, Found, illChain, noLabel, target, lookup}
-use Rattle.machine.specs.Change.{withStack, withCalls, withMemory, withFlags, moved, stopped, onward, popped, poppedBy, replaced, stacked, returned}
-use Rattle.machine.specs.Step.{Stepped, next, dumps, trap, ill, _must_else_then_, Integer, Float, Conversion, Op, NOP, PUSH, POP, INC, DEC, CMP, SWAP, DUP, BOT, JCC, JMP, CALL, RET, DMP, READ, WRITE, HALT, integer, float, conversion, push, pop, adjust, integerStep, floatStep, compare, swap, dup, bot, jumpIf, jump, callTo, call, ret, dump, convert, read, write, exec, opOf, instAt, wellState, step}
+use Rattle.machine.specs.Change.{withStack, withCalls, withMemory, withFlags, moved, stopped, onward, poppedBy, stacked}
+use Rattle.machine.specs.Step.{Stepped, next, dumps, trap, ill, Integer, Float, Conversion, Op, NOP, PUSH, POP, INC, DEC, CMP, SWAP, DUP, BOT, JCC, JMP, CALL, RET, DMP, READ, WRITE, HALT, integer, float, conversion, push, pop, adjust, integerStep, floatStep, compare, swap, dup, bot, jumpIf, jump, callTo, call, ret, dump, convert, read, write, exec, opOf, instAt, wellState, step}
 use Rattle.machine.specs.Effects.{Effects, Calls, calls, returns, keeps, listed, effects, lostAt, lost}
 use Rattle.machine.specs.History.{effectsAt}
 use Rattle.machine.specs.Statements.{addressed, trapLeaves, TrapsLeave}

@@ -6,3 +6,4 @@ pub mod Valid
 pub mod Tables
 pub mod Runs
 pub mod Marks
+pub mod Fuel

@@ -7,28 +7,26 @@ use native.Mathlib.Nat.{add-zero, add-suc, suc-add, add-assoc, zero-add}
 use native.Mathlib.Numerals.{add-one}
 use native.Mathlib.Omega.{arith}
 use lib.Dec.{eqb, ltb}
-use lib.IntN.{pos}
 use lib.ListN.{length, getD, take, drop, length-append, length-replicate}
 use lib.Seq.{take-append-seam}
 use Rattle.inst.specs.declared.Inst.{Inst}
-use Rattle.inst.specs.Records.{Bytes}
 use Rattle.machine.specs.declared.Machine.{Machine}
 use Rattle.machine.specs.declared.Label.{Label}
 use Rattle.machine.specs.declared.Ending.{Ending}
 use Rattle.machine.specs.declared.Ending.the-variants.{Halted, Limit, Full, Ill, Trapped}
 use Rattle.machine.specs.Limits.{stackLimit, callLimit, instLimit, labelRecords}
-use Rattle.machine.specs.Load.{isHalt, halt, Loaded, Load, accepts, rejects, loads, load, over, instsAfter, labelsAfter, fresh, countOf}
-use Rattle.machine.specs.Lookup.{Program, Found, illChain, noLabel, target, lookup}
-use Rattle.machine.specs.Step.{Stepped, next, dumps, trap, ill, Op, HALT, opOf, instAt, wellState, step}
+use Rattle.machine.specs.Load.{isHalt, halt, Loaded, accepts, rejects, loads, load, instsAfter, labelsAfter, fresh, countOf}
+use Rattle.machine.specs.Lookup.{Program, Found, illChain, noLabel, target}
+use Rattle.machine.specs.Step.{Stepped, next, dumps, trap, ill, opOf, instAt, step}
 use Rattle.machine.specs.Run.{Course, ended, after, follow, course, Result, reported, run, Request, runs, lastMachine, totalSteps, allDumped}
 use Rattle.machine.specs.Effects.{Effects, untrapped, trapped}
 use Rattle.machine.specs.History.{State, start, History, none, end, advance, stepped, programOf, effectsAt, further, history}
-use Rattle.machine.specs.Statements.{addresses, AllBelow, Agrees, Kept, AllKept, OneHistory, lent, RunsAreOneHistory}
+use Rattle.machine.specs.Statements.{AllBelow, Agrees, AllKept, lent, RunsAreOneHistory}
 use Rattle.inst.proofs.Laws.{by-test, never}
 use Rattle.machine.proofs.Does.{Does, Leads, halts, step-does}
-use Rattle.machine.proofs.Sound.{Called, Sound, agrees, In, stepped-sound}
+use Rattle.machine.proofs.Sound.{Sound, agrees, In, stepped-sound}
 use Rattle.machine.proofs.Valid.{Valid, valid}
-use Rattle.machine.proofs.Tables.{padded, findName, Inside, name-inside, lookup-is, inst-is, well-state, step-is}
+use Rattle.machine.proofs.Tables.{padded, Inside, name-inside, lookup-is, inst-is, well-state, step-is}
 
 end-same : (s u : State) → end s ≡ end u → s ≡ u
 end-same s u e = cc
@@ -261,7 +259,7 @@ module _ (image : List ℕ) (l : Loaded) (v : Valid image l) where
           machine-is = t .machine-is ∙ ap (λ (x : Machine). lastMachine x rs) (j .machine-is);
           dumps-are = t .dumps-are ∙ ap (λ (x : List ℕ). x ++ allDumped rs) (j .dumps-are) ∙ append-assoc (s .dumps) (r .cells) (allDumped rs)
               ∙ ap (λ (x : List ℕ). s .dumps ++ (x ++ allDumped rs)) (sym (front r (q .buffer)));
-          all-kept = (record { never-ill = j .never-ill; within = j .within; exact = j .exact }, t .all-kept);
+          all-kept = (record { never-ill = j .never-ill; within = j .within; exact = j .exact; fits = j .fits }, t .all-kept);
         }
 
     chained : (qs : List Request) (n : ℕ) (s : State) → history image l n ≡ end s → Chained n s qs (runs lentTables (s .machine) qs)

@@ -1,5 +1,5 @@
 -- A step keeps what holds at every point of a history. Assumes nothing.
-use Prim.Native.Nat.{ℕ, zero, suc, _+_, _-_, _≤_, _<_}
+use Prim.Native.Nat.{ℕ, suc, _+_, _-_, _≤_, _<_}
 use mathlib.Core.Path.{_≡_, refl, ap, _∙_, sym}
 use mathlib.Core.Bool.{Bool, true, false, cond}
 use mathlib.Core.List.{List, [], _∷_, _++_, map}
@@ -7,14 +7,14 @@ use native.Mathlib.Numerals.{add-one}
 use native.Mathlib.Omega.{arith}
 use lib.Dec.{eqb}
 use lib.IntN.{ℤ, pos, negℤ, _+ℤ_}
-use lib.ListN.{length, getD, take, set, length-set, length-take}
+use lib.ListN.{length, getD, set, length-set, length-take}
 use lib.Seq.{take-suc-set, getD-take}
 use Rattle.machine.specs.declared.Machine.{Machine}
 use Rattle.machine.specs.Limits.{stackLimit, callLimit}
 use Rattle.machine.specs.Change.{withStack, withCalls, poppedBy, stacked}
 use Rattle.machine.specs.Step.{Stepped, next, dumps, trap, ill}
-use Rattle.machine.specs.Effects.{Outcome, untrapped, trapped, Effects, Calls, calls, returns, keeps, lost, effect, dropLast, openCalls}
-use Rattle.machine.specs.History.{State, History, none, end, advance, stepped}
+use Rattle.machine.specs.Effects.{untrapped, trapped, Effects, Calls, calls, returns, keeps, lost, effect, dropLast, openCalls}
+use Rattle.machine.specs.History.{State, end, advance, stepped}
 use Rattle.machine.specs.Statements.{addresses, AllBelow, Agrees, addressed, trapLeaves}
 use Rattle.machine.proofs.Cases.{less-by}
 use Rattle.machine.proofs.Lists.{map-snoc, map-dropLast, dropLast-take, below-snoc, below-dropLast, below-getD}

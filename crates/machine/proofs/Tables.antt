@@ -1,24 +1,22 @@
 -- The step over the lent tables is the step over the loader's lists: what stands behind the filled slots is never met. Assumes nothing.
 use Prim.Native.Nat.{ℕ, zero, suc, _+_, _≤_, _<_}
-use mathlib.Core.Path.{_≡_, refl, ap, _∙_, sym, subst}
-use mathlib.Core.Bool.{Bool, true, false, cond, _&&_}
-use mathlib.Core.List.{List, [], _∷_, _++_, append-nil}
-use native.Mathlib.Nat.{le-of-suc-le-suc, not-suc-le-zero}
+use mathlib.Core.Path.{_≡_, refl, ap, _∙_}
+use mathlib.Core.Bool.{true, cond}
+use mathlib.Core.List.{List, _++_}
 use native.Mathlib.Omega.{arith}
-use lib.Dec.{eqb, ltb, leb, eqb·suc-zero}
+use lib.Dec.{eqb·suc-zero}
 use lib.ListN.{length, getD, length-append, List·getD-append}
 use borrow.Author.Tests.{lt-ltb, le-leb}
 use Rattle.inst.specs.declared.Inst.{Inst}
-use Rattle.inst.specs.Records.{part, nameIn, wellFormed}
+use Rattle.inst.specs.Records.{part}
 use Rattle.machine.specs.declared.Machine.{Machine}
 use Rattle.machine.specs.declared.Label.{Label}
 use Rattle.machine.specs.Limits.{stackLimit, callLimit}
 use Rattle.machine.specs.Load.{halt, same, nameOf, head, Loaded, countOf}
-use Rattle.machine.specs.Lookup.{Program, Found, illChain, noLabel, target, labelAt, inProgram, walk, lookupFrom, lookup}
+use Rattle.machine.specs.Lookup.{Program, Found, illChain, noLabel, target, labelAt, walk, lookupFrom, lookup}
 use Rattle.machine.specs.Step.{instAt, wellState, step, exec, opOf}
-use Rattle.machine.specs.History.{programOf}
 use Rattle.inst.proofs.Laws.{by-test}
-use Rattle.machine.proofs.Valid.{Definition, Chain, Valid, well-at}
+use Rattle.machine.proofs.Valid.{Definition, Valid, well-at}
 
 -- the loader's lists with anything behind them
 abbrev pub padded : List ℕ → Loaded → List Inst → List Label → Program

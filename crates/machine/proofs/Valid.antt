@@ -1,23 +1,23 @@
 -- What holds of every accepted image: its records are well formed, the last is HALT, and the label chain is as linked. Assumes nothing.
 use Prim.Native.Nat.{ℕ, zero, suc, _+_, _≤_, _<_}
 use mathlib.Core.Path.{_≡_, refl, ap, _∙_, sym, subst}
-use mathlib.Core.Bool.{Bool, true, false, cond, _&&_}
+use mathlib.Core.Bool.{Bool, true, false}
 use mathlib.Core.List.{List, [], _∷_, _++_}
 use native.Mathlib.Nat.{le-of-suc-le-suc, not-suc-le-zero}
 use native.Mathlib.Numerals.{add-one}
 use native.Mathlib.Omega.{arith}
 use lib.Dec.{eqb, ltb, leb}
-use lib.ListN.{length, getD, drop, length-append, List·getD-append}
+use lib.ListN.{length, getD, length-append, List·getD-append}
 use lib.Seq.{getD-at}
 use borrow.Author.Tests.{eqb-true, ltb-true, ltb-false, leb-false}
 use Rattle.inst.specs.declared.Inst.{Inst}
 use Rattle.inst.specs.Forms.{Form, name, formOf, hasNone, hasEight, hasOne, hasName}
-use Rattle.inst.specs.Records.{Bytes, nameOk, nameIn, fits, wellFormed}
-use Rattle.inst_decode.specs.Decode.{Answer, refused, reads, fromBytes}
-use Rattle.inst_decode.proofs.Facts.{ReadIn, Told, told}
+use Rattle.inst.specs.Records.{Bytes, nameIn, fits, wellFormed}
+use Rattle.inst_decode.specs.Decode.{Answer, refused, reads}
+use Rattle.inst_decode.proofs.Facts.{Told, told}
 use Rattle.machine.specs.declared.Label.{Label}
 use Rattle.machine.specs.Limits.{imageLimit, instLimit, labelRecords}
-use Rattle.machine.specs.Load.{isLabel, isNative, isHalt, halt, same, nameOf, startName, head, linked, Scan, Scanned, stops, goes, begin, added, scanOne, andThen, scan, Entry, none, entry, lastOf, anyNative, lastIsHalt, closed, Loaded, Load, rejects, accepts, checked, entered, finished, loads, load, countOf}
+use Rattle.machine.specs.Load.{isLabel, isHalt, halt, same, nameOf, startName, head, linked, Scan, Scanned, stops, goes, begin, added, scanOne, andThen, scan, Entry, none, entry, lastOf, anyNative, lastIsHalt, closed, Loaded, Load, rejects, accepts, checked, entered, finished, loads, countOf}
 use Rattle.machine.specs.Encode.{allWellFormed}
 use Rattle.inst.proofs.Laws.{by-test, never, and-left, and-right}
 use Rattle.machine.proofs.Cases.{both}

@@ -1,6 +1,6 @@
 -- Changes to a machine, of which the steps are made.
 use Prim.Native.Nat.{ℕ, _+_, _-_}
-use mathlib.Core.Bool.{Bool, true, false}
+use mathlib.Core.Bool.{true}
 use mathlib.Core.List.{List}
 use lib.ListN.{getD, set}
 use Rattle.machine.specs.declared.Machine.{Machine}

@@ -1,8 +1,8 @@
 -- The encoder (to_binary), as document 01 has it: a table of records written out.
 use Prim.Native.Nat.{ℕ}
-use mathlib.Core.Bool.{Bool, true, false, cond, not, _&&_}
+use mathlib.Core.Bool.{Bool, true, cond, _&&_}
 use mathlib.Core.List.{List, [], _∷_, _++_}
-use lib.Dec.{ltb, leb}
+use lib.Dec.{leb}
 use lib.ListN.{length, take}
 use Rattle.inst.specs.declared.Inst.{Inst}
 use Rattle.inst.specs.Records.{wellFormed}

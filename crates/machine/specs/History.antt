@@ -1,10 +1,8 @@
 -- The history of demand 3, as document 01 has it: fed the image, what the loader's definition gives for it, and a number of steps.
-use Prim.Native.Nat.{ℕ, zero, suc, _<_}
-use mathlib.Core.Path.{_≡_}
-use mathlib.Core.Bool.{Bool, true, false, cond}
-use mathlib.Core.List.{List, [], _∷_, _++_, map}
+use Prim.Native.Nat.{ℕ, zero, suc}
+use mathlib.Core.Bool.{cond}
+use mathlib.Core.List.{List, [], _∷_, _++_}
 use lib.IntN.{ℤ, pos, _+ℤ_}
-use lib.ListN.{take}
 use Rattle.machine.specs.declared.Machine.{Machine}
 use Rattle.machine.specs.Load.{Loaded, fresh, countOf}
 use Rattle.machine.specs.Lookup.{Program}

@@ -1,6 +1,6 @@
 -- A run (execute_program), as document 01 has it, and a list of runs.
 use Prim.Native.Nat.{ℕ, zero, suc, _+_}
-use mathlib.Core.Bool.{Bool, true, false, cond}
+use mathlib.Core.Bool.{cond}
 use mathlib.Core.List.{List, [], _∷_, _++_}
 use lib.ListN.{length, take}
 use Rattle.machine.specs.declared.Machine.{Machine}

@@ -1,23 +1,23 @@
--- Demand 3: the runs of every list, from the fresh machine of every accepted image, are together one history.
+-- What is proved of the definitions, as statements: demand 3, and what a trap leaves. Definitions only.
 use Prim.Native.Nat.{ℕ, suc, _+_, _≤_, _<_}
 use mathlib.Core.Bool.{cond}
 use lib.Dec.{eqb}
 use mathlib.Core.Path.{_≡_}
 use mathlib.Core.List.{List, [], _∷_, map}
 use lib.IntN.{pos}
-use lib.ListN.{take}
+use lib.ListN.{length, take}
 use Rattle.inst.specs.declared.Inst.{Inst}
 use Rattle.inst.specs.Records.{Bytes}
 use Rattle.machine.specs.declared.Machine.{Machine}
 use Rattle.machine.specs.declared.Label.{Label}
 use Rattle.machine.specs.declared.Ending.the-variants.{Limit, Ill}
-use Rattle.machine.specs.Load.{Loaded, Load, accepts, load, instsAfter, labelsAfter, fresh, countOf}
+use Rattle.machine.specs.Load.{Loaded, accepts, load, instsAfter, labelsAfter, fresh, countOf}
 use Rattle.machine.specs.Lookup.{Program}
 use Rattle.machine.specs.Change.{poppedBy, stacked}
 use Rattle.machine.specs.Step.{trap, step}
 use Rattle.machine.specs.Effects.{Effects, Calls, calls, returns, keeps, lost}
 use Rattle.machine.specs.Run.{Request, Result, runs, lastMachine, totalSteps, allDumped}
-use Rattle.machine.specs.History.{State, History, end, effectsAt, history}
+use Rattle.machine.specs.History.{State, end, effectsAt, history}
 
 -- the return addresses, oldest first
 abbrev pub addresses : Machine → List ℕ
@@ -35,11 +35,13 @@ pub record Agrees (count : ℕ) (s : State) : Type 0 where
   pub pointer-below : s .machine .ip < count
   pub addresses-below : AllBelow count (addresses (s .machine))
 
--- one run of a list: it doesn't end with 34, reports at most its limit, and exactly it where it ends by LIMIT
+-- one run of a list: it doesn't end with 34, reports at most its limit, and exactly it where it ends by LIMIT; it dumps no more cells
+-- than its buffer has
 pub record Kept (q : Request) (r : Result) : Type 0 where
   pub never-ill : r .ending ≡ Ill → ⊥
   pub within : r .steps ≤ q .limit
   pub exact : r .ending ≡ Limit → r .steps ≡ q .limit
+  pub fits : r .dumped ≤ length (q .buffer)
 
 unfoldable pub AllKept : List Request → List Result → Type 0
 AllKept [] [] = Unit {0}
@@ -61,6 +63,12 @@ unfoldable pub lent : List ℕ → List Inst → List Label → Loaded → Progr
 lent image insts labels l =
     record { image = image; insts = instsAfter (accepts l) insts; labels = labelsAfter (accepts l) labels; count = countOf l }
 
+-- Demand 3: the runs of every list, from the fresh machine of every accepted image, are together one history
+abbrev pub RunsAreOneHistory : Type 0
+RunsAreOneHistory =
+    (image : List ℕ) (insts : List Inst) (labels : List Label) (l : Loaded) → Bytes image → load image insts labels ≡ accepts l
+    → (qs : List Request) → OneHistory image l qs (runs (lent image insts labels l) (fresh l) qs)
+
 -- What a trap leaves of m: all but the listed pops, and the address of 27. So the pointer is unmoved
 unfoldable pub addressed : Calls → ℕ → Machine → Machine
 addressed keeps t m = m
@@ -75,8 +83,3 @@ abbrev pub TrapsLeave : Type 0
 TrapsLeave =
     (p : Program) (m : Machine) (t : ℕ) (m' : Machine) → step p m ≡ trap t m'
     → (lost (effectsAt p m) t ≤ m .height) × (m' ≡ trapLeaves (effectsAt p m) t m)
-
-abbrev pub RunsAreOneHistory : Type 0
-RunsAreOneHistory =
-    (image : List ℕ) (insts : List Inst) (labels : List Label) (l : Loaded) → Bytes image → load image insts labels ≡ accepts l
-    → (qs : List Request) → OneHistory image l qs (runs (lent image insts labels l) (fresh l) qs)
