@@ -3,15 +3,15 @@ use mathlib.Core.Path.{_≡_, refl, sym, subst, _∙_}
 use Prim.Native.Nat.{ℕ, _+_, _-_, _*_, _^_, _≤_, _<_}
 use native.Mathlib.Nat.{le-refl, lt-irrefl, mul-assoc, add-mul}
 use native.Mathlib.Omega.{arith}
-use mathlib.Core.Bool.{Bool, true, false, not, Bool·beq, cond}
-use borrow.Author.Tests.{ne-eqb}
+use mathlib.Core.Bool.{Bool, true, false, not, _&&_, and-false, Bool·beq, cond}
+use borrow.Author.Tests.{ne-eqb, ltb-true, le-ltb}
 use lib.Dec.{ltb}
 use lib.Pow.{pow-pos}
 use Rattle.binary64.proofs.Bounded.{round-nearest}
 use Rattle.binary64.proofs.Unique.{unique, over, reaches}
-use Rattle.binary64.specs.Rounding.{units, roundPattern}
-use Rattle.binary64.specs.Binary64.{infinity, Exact, exactSum, exactProduct, exactQuotient, rounded, sum, opposite, product, quotient, sumBits, differenceBits, productBits, quotientBits}
-use Rattle.binary64.specs.Theorems.{Theorems, IsRounded, RoundsToNearestEven, OnlyOneIsNearestEven, OverflowsFrom, SumIsRounded, DifferenceIsRounded, ProductIsRounded, QuotientIsRounded}
+use Rattle.binary64.specs.Rounding.{count, units, roundPattern}
+use Rattle.binary64.specs.Binary64.{infinity, signed, Exact, exactly, exactSum, exactProduct, exactQuotient, rounded, sum, opposite, product, quotient, sumBits, differenceBits, productBits, quotientBits}
+use Rattle.binary64.specs.Theorems.{Theorems, IsRounded, RoundsToNearestEven, OnlyOneIsNearestEven, OverflowsFrom, SumIsRounded, ZeroSumIsSigned, DifferenceIsRounded, ProductIsRounded, QuotientIsRounded}
 
 nearest : RoundsToNearestEven
 nearest n den D = round-nearest 52 infinity n den (omega arith) D
@@ -59,6 +59,27 @@ sum-rounded : SumIsRounded
 unfolding sumBits sum
 sum-rounded a b s u t v p q = rw (p, q) (is-rounded (exactSum s u t v) (sum-fraction s u t v))
 
+zero-pattern : roundPattern 52 infinity 0 1 ≡ 0
+unfolding roundPattern count
+zero-pattern = refl
+
+-- of unlike signs: the magnitudes are equal, and neither is the larger
+unlike-zero : (s t : Bool) (u v : ℕ) (x : Bool) → ltb u v ≡ x → cond x (exactly t (v - u) 1) (exactly (s && ltb v u) (u - v) 1) .numerator ≡ 0
+    → rounded (cond x (exactly t (v - u) 1) (exactly (s && ltb v u) (u - v) 1)) ≡ 0
+unlike-zero s t u v true h e = absurd (omega (arith, ltb-true u v h))
+unlike-zero s t u v false h e = let l : u ≤ v = omega arith in simp (le-ltb v u l, and-false, e, zero-pattern)
+
+-- the sign of an exact sum of 0, by the operands' signs
+zero-signed : (s : Bool) (u : ℕ) (t : Bool) (v : ℕ) → exactSum s u t v .numerator ≡ 0 → rounded (exactSum s u t v) ≡ signed (s && t) 0
+zero-signed true u true v e = simp (e, zero-pattern)
+zero-signed false u false v e = simp (e, zero-pattern)
+zero-signed true u false v e = unlike-zero true false u v (ltb u v) refl e
+zero-signed false u true v e = unlike-zero false true u v (ltb u v) refl e
+
+zero-sum : ZeroSumIsSigned
+unfolding sumBits sum
+zero-sum a b s u t v p q e = rw (p, q) (zero-signed s u t v e)
+
 difference-rounded : DifferenceIsRounded
 unfolding differenceBits sum opposite
 difference-rounded a b s u t v p q = rw (p, q) (is-rounded (exactSum s u (not t) v) (sum-fraction s u (not t) v))
@@ -77,6 +98,7 @@ theorems = record {
   only-one = only-one;
   overflows = overflows;
   sum = sum-rounded;
+  zero-sum = zero-sum;
   difference = difference-rounded;
   product = product-rounded;
   quotient = quotient-rounded;

@@ -1,7 +1,7 @@
 -- What the rounding of Binary64 is, as statements. Definitions only: `rounding_theorems` in src/lib.rt states that they hold.
 use Prim.Native.Nat.{ℕ, _*_, _-_, _^_, _≤_, _<_}
 use mathlib.Core.Path.{_≡_}
-use mathlib.Core.Bool.{Bool}
+use mathlib.Core.Bool.{Bool, _&&_}
 use Rattle.binary64.specs.Rounding.{NearestEven, roundPattern}
 use Rattle.binary64.specs.Binary64.{infinity, finite, value, signed, Exact, exactSum, exactDifference, exactProduct, exactQuotient, sumBits, differenceBits, productBits, quotientBits}
 
@@ -34,6 +34,10 @@ OfFinite P = (a b : ℕ) (s : Bool) (u : ℕ) (t : Bool) (v : ℕ) → value a �
 abbrev pub SumIsRounded : Type 0
 SumIsRounded = OfFinite (λ a b s u t v. IsRounded (exactSum s u t v) (sumBits a b))
 
+-- an exact sum of 0 is -0 where both operands are negative, and +0 otherwise
+abbrev pub ZeroSumIsSigned : Type 0
+ZeroSumIsSigned = OfFinite (λ a b s u t v. exactSum s u t v .numerator ≡ 0 → sumBits a b ≡ signed (s && t) 0)
+
 abbrev pub DifferenceIsRounded : Type 0
 DifferenceIsRounded = OfFinite (λ a b s u t v. IsRounded (exactDifference s u t v) (differenceBits a b))
 
@@ -48,6 +52,7 @@ pub record Theorems : Type 0 where
   pub only-one : OnlyOneIsNearestEven
   pub overflows : OverflowsFrom
   pub sum : SumIsRounded
+  pub zero-sum : ZeroSumIsSigned
   pub difference : DifferenceIsRounded
   pub product : ProductIsRounded
   pub quotient : QuotientIsRounded

@@ -21,7 +21,7 @@ use Rattle.machine.specs.Effects.{Effects, Calls, calls, returns, keeps,
 use Rattle.machine.specs.History.{effectsAt}
 use Rattle.machine.specs.Statements.{addressed, trapLeaves, TrapsLeave}
 use Rattle.inst.proofs.Laws.{by-test, never}
-use Rattle.machine.proofs.Cases.{must-case, level, less-by, popped-none}
+use Rattle.machine.proofs.Cases.{addressed-is, must-case, level, less-by, popped-none}
 
 -- the call stack after a step that didn't trap, by the instruction's effect on it; G holds of a pointer where the machine may stand
 unfoldable pub CallsAre : (ℕ → Type 0) → Calls → Machine → Machine → Type 0
@@ -276,7 +276,14 @@ leads-anywhere m noLabel = tt
 leads-anywhere m (target i) = tt
 
 pub traps-leave : TrapsLeave
-unfolding Does
+unfolding Does withStack
 traps-leave p m t m' e =
     let d = rw e at (step-does Anywhere (Unit {0}) m p (λ _. tt) tt (λ _. tt) (leads-anywhere m _)) in
-    (d .0, d .1)
+    let f = effectsAt p m in
+    let a = addressed-is (f .on-calls) t m in
+    record {
+      enough = d .0;
+      machine-is = d .1;
+      pointer-is = ap (λ (x : Machine). x .ip) (d .1) ∙ a .ip-is;
+      height-is = ap (λ (x : Machine). x .height) (d .1) ∙ ap (λ (n : ℕ). n - lost f t) (a .height-is);
+    }

@@ -16,7 +16,7 @@ use Rattle.machine.specs.Step.{Stepped, next, dumps, trap, ill}
 use Rattle.machine.specs.Effects.{untrapped, trapped, Effects, Calls, calls, returns, keeps, lost, effect, dropLast, openCalls}
 use Rattle.machine.specs.History.{State, end, advance, stepped}
 use Rattle.machine.specs.Statements.{addresses, AllBelow, Agrees, addressed, trapLeaves}
-use Rattle.machine.proofs.Cases.{less-by}
+use Rattle.machine.proofs.Cases.{less-by, addressed-is}
 use Rattle.machine.proofs.Lists.{map-snoc, map-dropLast, dropLast-take, below-snoc, below-dropLast, below-getD}
 use Rattle.machine.proofs.Does.{CallsAre, Moves, Room, Does}
 
@@ -41,16 +41,6 @@ agrees count s h =
       pointer-below = h .called .pointer-below;
       addresses-below = h .called .addresses-below;
     }
-
-addressed-height : (k : Calls) (t : ℕ) (m : Machine) → addressed k t m .height ≡ m .height
-unfolding addressed withCalls
-addressed-height keeps t m = refl
-addressed-height calls t m = by (eqb t 27)
-  where
-    by : (b : Bool) → cond b (stacked (m .ip + 1) m) m .height ≡ m .height
-    by true = refl
-    by false = refl
-addressed-height returns t m = refl
 
 module _ (count : ℕ) where
   abbrev pub In : ℕ → Type 0
@@ -137,7 +127,7 @@ module _ (count : ℕ) where
     unfolding advance effect withStack
     trap-sound t l r =
         let m = s .machine in
-        let z = addressed-height (e .on-calls) t m in
+        let z = addressed-is (e .on-calls) t m .height-is in
         record {
           height-is = ap (λ (x : ℤ). x +ℤ negℤ (pos (lost e t))) (h .height-is) ∙ sym (less-by (m .height) (lost e t) l)
               ∙ ap (λ (x : ℕ). pos (x - lost e t)) (sym z);

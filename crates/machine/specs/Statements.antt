@@ -1,5 +1,5 @@
 -- What is proved of the definitions, as statements: demand 3, and what a trap leaves. Definitions only.
-use Prim.Native.Nat.{ℕ, suc, _+_, _≤_, _<_}
+use Prim.Native.Nat.{ℕ, suc, _+_, _-_, _≤_, _<_}
 use mathlib.Core.Bool.{cond}
 use lib.Dec.{eqb}
 use mathlib.Core.Path.{_≡_}
@@ -69,7 +69,7 @@ RunsAreOneHistory =
     (image : List ℕ) (insts : List Inst) (labels : List Label) (l : Loaded) → Bytes image → load image insts labels ≡ accepts l
     → (qs : List Request) → OneHistory image l qs (runs (lent image insts labels l) (fresh l) qs)
 
--- What a trap leaves of m: all but the listed pops, and the address of 27. So the pointer is unmoved
+-- What a trap leaves of m: all but the listed pops, and the address of 27
 unfoldable pub addressed : Calls → ℕ → Machine → Machine
 addressed keeps t m = m
 addressed returns t m = m
@@ -78,8 +78,14 @@ addressed calls t m = cond (eqb t 27) (stacked (m .ip + 1) m) m
 abbrev pub trapLeaves : Effects → ℕ → Machine → Machine
 trapLeaves e t m = poppedBy (lost e t) (addressed (e .on-calls) t m)
 
--- for every program and machine
+-- m' is what the trap t leaves of m, where the instruction has the effects e: there were cells enough to pop, and so the pointer and the
+-- height are these
+pub record TrapLeft (e : Effects) (t : ℕ) (m m' : Machine) : Type 0 where
+  pub enough : lost e t ≤ m .height
+  pub machine-is : m' ≡ trapLeaves e t m
+  pub pointer-is : m' .ip ≡ m .ip
+  pub height-is : m' .height ≡ m .height - lost e t
+
+-- of every step that traps, for every program and machine
 abbrev pub TrapsLeave : Type 0
-TrapsLeave =
-    (p : Program) (m : Machine) (t : ℕ) (m' : Machine) → step p m ≡ trap t m'
-    → (lost (effectsAt p m) t ≤ m .height) × (m' ≡ trapLeaves (effectsAt p m) t m)
+TrapsLeave = (p : Program) (m : Machine) (t : ℕ) (m' : Machine) → step p m ≡ trap t m' → TrapLeft (effectsAt p m) t m m'
