@@ -1,8 +1,8 @@
 -- The step over the lent tables is the step over the loader's lists: what stands behind the filled slots is never met. Assumes nothing.
 use Prim.Native.Nat.{ℕ, zero, suc, _+_, _≤_, _<_}
-use mathlib.Core.Path.{_≡_, refl, ap, _∙_}
-use mathlib.Core.Bool.{true, cond}
-use mathlib.Core.List.{List, _++_}
+use mathlib.Core.Path.{_≡_, refl, ap, _∙_, sym}
+use mathlib.Core.Bool.{Bool, true, false, cond}
+use mathlib.Core.List.{List, [], _∷_, _++_}
 use native.Mathlib.Omega.{arith}
 use lib.Dec.{eqb·suc-zero}
 use lib.ListN.{length, getD, length-append, List·getD-append}
@@ -12,7 +12,7 @@ use Rattle.inst.specs.Records.{part}
 use Rattle.machine.specs.declared.Machine.{Machine}
 use Rattle.machine.specs.declared.Label.{Label}
 use Rattle.machine.specs.Limits.{stackLimit, callLimit}
-use Rattle.machine.specs.Load.{halt, same, nameOf, head, Loaded, countOf}
+use Rattle.machine.specs.Load.{halt, same, nameOf, startName, head, Entry, none, entry, lastOf, Loaded, countOf}
 use Rattle.machine.specs.Lookup.{Program, Found, illChain, noLabel, target, labelAt, walk, lookupFrom, lookup}
 use Rattle.machine.specs.Step.{instAt, wellState, step, exec, opOf}
 use Rattle.inst.proofs.Laws.{by-test}
@@ -54,6 +54,40 @@ find-inside image name n d f (suc i) h =
     by-test (Inside n) (same name (nameOf image (getD d i (head 0)))) (target _) (find image name d i)
     (λ _. f i h .target-below) (λ _. find-inside image name n d f i (omega arith))
 
+-- the last definition of a name is the one that a lookup finds
+
+entryOr : Entry → Found → Entry
+entryOr e illChain = e
+entryOr e noLabel = e
+entryOr e (target t) = entry t
+
+module _ (image name : List ℕ) where
+  -- a definition before the others counts where they don't have the name
+  earlier : (l : Label) (d : List Label) (i : ℕ) (e : Entry)
+      → entryOr e (find image name (l ∷ d) (suc i)) ≡ entryOr (cond (same name (nameOf image l)) (entry (l .target)) e) (find image name d i)
+  unfolding find entryOr
+  earlier l d zero e = by (same name (nameOf image l))
+    where
+      by : (b : Bool) → entryOr e (cond b (target (l .target)) noLabel) ≡ cond b (entry (l .target)) e
+      by true = refl
+      by false = refl
+  earlier l d (suc i) e = by _ _ _ _ (same name (nameOf image (getD d i (head 0)))) (earlier l d i e)
+    where
+      by : (f g : Found) (e' : Entry) (t : ℕ) (b : Bool) → entryOr e f ≡ entryOr e' g → entryOr e (cond b (target t) f) ≡ entryOr e' (cond b (target t) g)
+      by f g e' t true h = refl
+      by f g e' t false h = h
+
+  last-found : (d : List Label) (e : Entry) → lastOf image name e d ≡ entryOr e (find image name d (length d))
+  unfolding lastOf find entryOr
+  last-found [] e = refl
+  last-found (l ∷ d) e = last-found d (cond (same name (nameOf image l)) (entry (l .target)) e) ∙ sym (earlier l d (length d) e)
+
+  found-target : (f : Found) (t : ℕ) → entryOr none f ≡ entry t → f ≡ target t
+  unfolding entryOr
+  found-target illChain t e = absurd (let z : _≡_ {A = ℕ} 0 1 = cc in omega arith)
+  found-target noLabel t e = absurd (let z : _≡_ {A = ℕ} 0 1 = cc in omega arith)
+  found-target (target u) t e = cc
+
 module _ (image : List ℕ) (l : Loaded) (v : Valid image l) where
   -- the lookup of an instruction's name among the loaded labels
   abbrev pub findName : Inst → Found
@@ -76,6 +110,12 @@ module _ (image : List ℕ) (l : Loaded) (v : Valid image l) where
         let size : length (l .labels ++ ls) ≡ suc (length d) + length ls = length-append (l .labels) ls ∙ ap (λ (x : List Label). length x + length ls) (v .chain .labels-are) in
         let w = walk-finds image (part image (i .start) (i .len)) p d refl (v .chain .definitions) filled (length d) (length (p .labels)) (length (p .labels)) (omega arith) (omega arith) (omega arith) in
         ap (λ (x : List Label). lookupFrom p (part image (i .start) (i .len)) (x ++ ls)) (v .chain .labels-are) ∙ w
+
+    -- a jump to `_start` leads to where the fresh machine starts
+    pub start-found : (i : Inst) → part image (i .start) (i .len) ≡ startName → lookup p i ≡ target (l .start)
+    start-found i e =
+        lookup-is i ∙ ap (λ (n : List ℕ). find image n (v .chain .defined) (length (v .chain .defined))) e
+        ∙ found-target image startName _ (l .start) (sym (last-found image startName (v .chain .defined) none) ∙ v .start-is)
 
     pub inst-is : (m : Machine) → m .ip < countOf l → instAt p m ≡ getD (l .insts) (m .ip) halt
     inst-is m h = List·getD-append (l .insts) is halt (m .ip) h

@@ -7,7 +7,7 @@ use native.Mathlib.Nat.{le-of-suc-le-suc, not-suc-le-zero}
 use native.Mathlib.Numerals.{add-one}
 use native.Mathlib.Omega.{arith}
 use lib.Dec.{eqb, ltb, leb}
-use lib.ListN.{length, getD, length-append, List·getD-append}
+use lib.ListN.{drop, length, getD, length-append, List·getD-append}
 use lib.Seq.{getD-at}
 use borrow.Author.Tests.{eqb-true, ltb-true, ltb-false, leb-false}
 use Rattle.inst.specs.declared.Inst.{Inst}
@@ -40,6 +40,7 @@ pub record Valid (image : List ℕ) (l : Loaded) : Type 0 where
   pub start-below : l .start < countOf l
   pub count-fits : countOf l ≤ instLimit
   pub chain : Chain image (countOf l) (l .labels)
+  pub start-is : lastOf image startName none (chain .defined) ≡ entry (l .start)
 
 -- records
 
@@ -200,10 +201,11 @@ GoodLoad image (rejects n) = Unit {0}
 GoodLoad image (accepts l) = Valid image l
 
 module _ (image : List ℕ) where
-  entered-good : (s : Scan) (e : Entry) → Good image s → GoodEntry (length (s .insts)) e → GoodLoad image (entered s e)
-  unfolding entered checked GoodLoad GoodEntry
-  entered-good s none g t = tt
-  entered-good s (entry t) g h =
+  entered-good : (s : Scan) (e : Entry) (g : Good image s) → GoodEntry (length (s .insts)) e → lastOf image startName none (g .chain .defined) ≡ e
+      → GoodLoad image (entered s e)
+  unfolding entered checked GoodLoad GoodEntry chain-more
+  entered-good s none g h q = tt
+  entered-good s (entry t) g h q =
       let n = length (closed (s .insts)) in
       let l = longer (s .insts) in
       by-test (GoodLoad image) (ltb instLimit n) _ _ (λ _. tt) λ f.
@@ -214,6 +216,7 @@ module _ (image : List ℕ) where
         start-below = omega arith;
         count-fits = ltb-false instLimit n f;
         chain = chain-more image (length (s .insts)) n _ l (g .chain);
+        start-is = q;
       }
 
   finished-good : (r : Scanned) → GoodScanned image r → GoodLoad image (finished image r)
@@ -221,8 +224,8 @@ module _ (image : List ℕ) where
   finished-good (stops n) g = tt
   finished-good (goes s) g =
       let c = g .chain in
-      entered-good s _ g
-      (rw (c .labels-are) (last-good image startName (length (s .insts)) none (c .defined) tt (λ i h. c .definitions i h .target-below)))
+      subst (λ (ls : List Label). GoodLoad image (entered s (lastOf image startName none (drop 1 ls)))) (sym (c .labels-are))
+      (entered-good s _ g (last-good image startName (length (s .insts)) none (c .defined) tt (λ i h. c .definitions i h .target-below)) refl)
 
   loads-good : Bytes image → GoodLoad image (loads image)
   unfolding loads GoodLoad
