@@ -1,22 +1,44 @@
--- Parts of an image, and its instructions by their form. Assumes nothing.
-use Prim.Native.Nat.{ℕ, _<_, _≤_, _+_}
-use mathlib.Core.Path.{_≡_}
-use mathlib.Core.List.{List, [], _∷_}
-use native.Mathlib.Nat.{add-assoc}
+-- Numbers of bytes, and an image's instructions by their form. Assumes nothing.
+use Prim.Native.Nat.{ℕ, zero, suc, _<_, _≤_, _+_, _*_, _-_, _^_}
+use mathlib.Core.Path.{_≡_, ap}
+use mathlib.Core.List.{List}
+use native.Mathlib.Nat.{le-refl, mul-assoc, mul-le-mul, one-le-pow, pow-succ'}
 use native.Mathlib.Omega.{arith}
-use lib.Dec.{lit<}
+use lib.Dec.{lit≤}
 use lib.ListN.{length, getD, take, drop}
 use borrow.Author.Tests.{lt-leb}
 use Rattle.inst.specs.Forms.{Form, formOf}
 use Rattle.inst.proofs.Laws.{drop-next}
-use Rattle.inst_decode.specs.Decode.{readOperand, fromBytes}
+use Rattle.inst_decode.specs.Decode.{littleEndian, word, readOperand, fromBytes}
 
--- eight bytes one by one
-pub eight-bytes : (s : List ℕ) (at : ℕ) → at + 8 ≤ length s
-    → take 8 (drop at s) ≡ getD s at 0 ∷ getD s (at + 1) 0 ∷ getD s (at + 2) 0 ∷ getD s (at + 3) 0 ∷ getD s (at + 4) 0 ∷ getD s (at + 5) 0 ∷ getD s (at + 6) 0 ∷ getD s (at + 7) 0 ∷ []
-eight-bytes s at h =
-    let next : (k : ℕ) → k < 8 → drop (at + k) s ≡ getD s (at + k) 0 ∷ drop (at + (k + 1)) s = λ k l. rw (← add-assoc at k 1) (drop-next s (at + k) (omega arith)) in
-    rw (drop-next s at (omega arith), next 1 (lit< tt), next 2 (lit< tt), next 3 (lit< tt), next 4 (lit< tt), next 5 (lit< tt), next 6 (lit< tt), next 7 (lit< tt))
+-- a number of bytes, with one more byte below
+pub one-lower : (s : List ℕ) (at left number byte : ℕ) → at + 8 ≤ length s → 0 < left → left ≤ 8
+    → number ≡ littleEndian (take (8 - left) (drop (at + left) s)) → byte ≡ getD s (at + (left - 1)) 0
+    → number * 256 + byte ≡ littleEndian (take (8 - (left - 1)) (drop (at + (left - 1)) s))
+unfolding littleEndian
+one-lower s at left number byte h l k e f =
+    let z : 8 - (left - 1) ≡ suc (8 - left) = omega arith in
+    let n : at + (left - 1) + 1 ≡ at + left = omega arith in
+    rw (z, drop-next s (at + (left - 1)) (omega arith), n, ← e, ← f) (omega arith)
+
+-- it still fits as many bytes as are left
+pub room-lower : (left number byte : ℕ) → 0 < left → byte < 256 → (number + 1) * 256 ^ left ≤ 2 ^ 64
+    → (number * 256 + 256 ≤ 2 ^ 64) × ((number * 256 + byte + 1) * 256 ^ (left - 1) ≤ 2 ^ 64)
+room-lower zero number byte l b h = absurd (omega arith)
+room-lower (suc k) number byte l b h =
+    let whole : ℕ = number * 256 + 256 in
+    let p : whole * 256 ^ k ≡ (number + 1) * 256 ^ suc k = rw (pow-succ' 256 k, ← mul-assoc) (ap (λ (n : ℕ). n * 256 ^ k) (omega arith)) in
+    let one = mul-le-mul (le-refl whole) (one-le-pow k 256 (lit≤ tt)) in
+    let z : suc k - 1 ≡ k = omega arith in
+    let below : number * 256 + byte + 1 ≤ whole = omega arith in
+    (omega arith, rw z (omega (arith, mul-le-mul below (le-refl (256 ^ k)))))
+
+-- all of them read
+pub none-left : (s : List ℕ) (at left number : ℕ) → left ≤ 0 → number ≡ littleEndian (take (8 - left) (drop (at + left) s)) → number ≡ word s at
+none-left s at left number h e =
+    let z : left ≡ 0 = omega arith in
+    let n : at + 0 ≡ at = omega arith in
+    rw n at (rw z at e)
 
 -- the instruction at a place of the image, by its form
 pub from-operand : (image : List ℕ) (at : ℕ) (f : Form) → at < length image → formOf (getD image at 0) ≡ f → fromBytes image at ≡ readOperand image at (getD image at 0) f

@@ -1,10 +1,9 @@
 // Decoding one instruction (Inst::from_bytes of mm's inst.rs).
 ghost use mathlib.Core.Path.{_≡_};
 ghost use Prim.Native.Nat.{_+_, _≤_, _<_};
-ghost use mathlib.Core.List.{[], _∷_};
 ghost use lib.ListN.{length};
 ghost use Rattle.inst.specs.Forms.{eight, one, name};
-ghost use Rattle.inst_decode.specs.Decode.{means, littleEndian, word, typeOf, isNegative, readName, readOperand, fromBytes};
+ghost use Rattle.inst_decode.specs.Decode.{means, word, typeOf, isNegative, readName, readOperand, fromBytes};
 use inst::EIGHT;
 use inst::Inst;
 use inst::NAME;
@@ -21,35 +20,25 @@ pub enum Decoded {
     Read(Inst, usize),
 }
 
-// Eight bytes as a number, the lowest first.
-fn join(a: u8, b: u8, c: u8, d: u8, e: u8, f: u8, g: u8, h: u8) -> u64
-    ensures { λ r. ⌜ r ≡ littleEndian (a ∷ b ∷ c ∷ d ∷ e ∷ f ∷ g ∷ h ∷ []) ⌝ }
+// A byte as a number.
+fn wide(byte: u8) -> u64
+    ensures { λ r. ⌜ r ≡ byte ⌝ }
 {
-    a as u64
-        + 0x100 * (b as u64)
-        + 0x10000 * (c as u64)
-        + 0x1000000 * (d as u64)
-        + 0x100000000 * (e as u64)
-        + 0x10000000000 * (f as u64)
-        + 0x1000000000000 * (g as u64)
-        + 0x100000000000000 * (h as u64)
+    byte as u64
 }
 
-// The eight bytes from `at` on.
+// The eight bytes from `at` on as a number, the lowest first: read from the highest down.
 fn word_at(image: &[u8], at: usize) -> u64
     requires { ⌜ at + 8 ≤ length (now image) ⌝ }
     ensures { λ r. ⌜ r ≡ word (now (image .entry)) at ⌝ }
 {
-    join(
-        image[at],
-        image[at + 1],
-        image[at + 2],
-        image[at + 3],
-        image[at + 4],
-        image[at + 5],
-        image[at + 6],
-        image[at + 7],
-    )
+    let mut number: u64 = 0;
+    let mut left: usize = 8;
+    while left > 0 {
+        left -= 1;
+        number = number * 256 + wide(image[at + left]);
+    }
+    number
 }
 
 // An operand of eight bytes behind the first byte at `at`.
