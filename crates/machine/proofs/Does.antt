@@ -84,7 +84,7 @@ module _ (G : ℕ → Type 0) (I : Type 0) (m : Machine) where
   unfolding Does addressed Room
   untouched g n ts t z = rw z (omega arith, sym (popped-none m), tt)
 
-  -- a trap that pops one cell, and one that pops n
+  -- a trap that pops n cells
   loses : (g : ℤ) (n : ℕ) (ts : List ℕ) (t : ℕ) → lostAt n ts t ≡ n → n ≤ m .height → Does G I (listed g n ts keeps) m (trap t (poppedBy n m))
   unfolding Does addressed Room
   loses g n ts t z l = rw z (l, refl, tt)
@@ -95,7 +95,7 @@ module _ (G : ℕ → Type 0) (I : Type 0) (m : Machine) where
   unfolding Does CallsAre
   on d n ts m' h l c e g = record { gained = h; limited = l; called = (c, e, g) }
 
-  -- the same with n cells less
+  -- the same with k cells less
   less : (k n : ℕ) (ts : List ℕ) (m' : Machine) → k ≤ m .height → m' .height ≡ m .height - k
       → m' .calls ≡ m .calls → m' .depth ≡ m .depth → G (m' .ip) → Does G I (listed (negℤ (pos k)) n ts keeps) m (next m')
   less k n ts m' l h c e g = on _ n ts m' (ap pos h ∙ less-by (m .height) k l) (λ b. rw h (omega arith)) c e g
