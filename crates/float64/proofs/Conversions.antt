@@ -1,4 +1,4 @@
--- Conversions between patterns and whole numbers, and the test against zero, from the library's values to those of specs/Binary64.
+-- Conversions between patterns and whole numbers, and the test against zero, from the library's values to those of crate binary64.
 use mathlib.Core.Path.{_≡_, refl, sym, ap, _∙_, subst}
 use Prim.Native.Nat.{ℕ, _+_, _-_, _*_, _/_, _^_, _≤_, _<_, min}
 use native.Mathlib.Nat.{le-refl, one-mul, zero-mul, le-div-iff-mul-le, mul-one, mul-right-comm, eq-of-mul-eq-mul-right}

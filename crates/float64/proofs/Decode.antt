@@ -1,4 +1,4 @@
--- What a pattern stands for by specs/Binary64 is what the library reads from its bits.
+-- What a pattern stands for by crate binary64 is what the library reads from its bits.
 use mathlib.Core.Path.{_≡_, refl, sym, ap, _∙_, subst}
 use Prim.Native.Nat.{ℕ, zero, suc, _+_, _*_, _/_, _%_, _^_, _<_}
 use native.Mathlib.Nat.{lt-irrefl, mul-one, div-lt-iff-lt-mul}

@@ -1,4 +1,4 @@
--- The bits that the library writes for a rounded fraction are `rounded` of specs/Binary64; equal fractions round alike.
+-- The bits that the library writes for a rounded fraction are `rounded` of crate binary64; equal fractions round alike.
 use mathlib.Core.Path.{_≡_, refl, sym, ap, _∙_, subst}
 use mathlib.Core.Logic.{inl, inr}
 use Prim.Native.Nat.{ℕ, zero, suc, _+_, _-_, _*_, _/_, _^_, _≤_, _<_, min, zero-le}

@@ -1,4 +1,4 @@
--- The library's four operations give what specs/Binary64 defines.
+-- The library's four operations give what crate binary64 defines.
 use mathlib.Core.Path.{_≡_, refl, sym, ap, _∙_, subst}
 use Prim.Native.Nat.{ℕ, _+_, _-_, _*_, _^_, _<_}
 use native.Mathlib.Nat.{le-refl, mul-one, mul-comm, mul-assoc, mul-left-comm, mul-right-comm, mul-sub, add-mul, zero-mul, mul-pos, mul-lt-mul-of-pos-right, lt-of-mul-lt-mul-right, eq-of-mul-eq-mul-right}

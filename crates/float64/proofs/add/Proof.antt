@@ -1,4 +1,4 @@
--- `add` meets its contract: the library's sum of the two values has the pattern that specs/Binary64 defines.
+-- `add` meets its contract: the library's sum of the two values has the pattern that crate binary64 defines.
 use mathlib.Core.Path.{_∙_}
 use borrow.Author.Needs.{needs}
 use Rattle.float64.proofs.Operations.{sum-of}

@@ -1,4 +1,4 @@
--- `inst::from_bytes` meets its contract. Assumes nothing.
+-- `inst_decode::from_bytes` meets its contract. Assumes nothing.
 use mathlib.Core.Path.{_∙_, sym}
 use Prim.Native.Nat.{_≤_}
 use native.Mathlib.Omega.{arith}

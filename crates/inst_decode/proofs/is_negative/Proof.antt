@@ -1,4 +1,4 @@
--- `inst::is_negative` meets its contract. Assumes nothing.
+-- `inst_decode::is_negative` meets its contract. Assumes nothing.
 use Prim.Native.Nat.{_≤_, _<_, _^_}
 use native.Mathlib.Omega.{arith}
 use borrow.Author.Tests.{le-leb, lt-leb}

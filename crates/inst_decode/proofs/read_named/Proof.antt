@@ -1,4 +1,4 @@
--- `inst::read_named` meets its contract. Assumes nothing.
+-- `inst_decode::read_named` meets its contract. Assumes nothing.
 use Prim.Native.Nat.{_<_, _+_, _≤_}
 use native.Mathlib.Omega.{arith}
 use lib.ListN.{length}

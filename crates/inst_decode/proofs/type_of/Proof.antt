@@ -1,4 +1,4 @@
--- `inst::type_of` meets its contract. Assumes nothing.
+-- `inst_decode::type_of` meets its contract. Assumes nothing.
 use borrow.Author.Tests.{eq-eqb, ne-eqb}
 use Rattle.inst_decode.specs.Decode.{typeOf}
 use Rattle.inst_decode.proofs.type_of.Statement.{statement}

@@ -1,4 +1,4 @@
--- `inst::as_bytes` meets its contract. Assumes nothing.
+-- `inst_encode::as_bytes` meets its contract. Assumes nothing.
 use mathlib.Core.Path.{_≡_, refl, ap, sym}
 use mathlib.Core.List.{[], _∷_}
 use native.Mathlib.Omega.{arith}

@@ -1,4 +1,4 @@
--- `inst::encoded_len` meets its contract. Assumes nothing.
+-- `inst_encode::encoded_len` meets its contract. Assumes nothing.
 use native.Mathlib.Omega.{arith}
 use mathlib.Core.List.{[]}
 use Rattle.inst_encode.specs.Encode.{headSize, encodedSize}

@@ -1,4 +1,4 @@
--- `inst::put_name` meets its contract. The invariant: storing what is left gives the whole. Assumes nothing.
+-- `inst_encode::put_name` meets its contract. The invariant: storing what is left gives the whole. Assumes nothing.
 use Prim.Native.Nat.{_≤_, _+_, _-_}
 use mathlib.Core.Path.{_≡_}
 use native.Mathlib.Nat.{add-zero}

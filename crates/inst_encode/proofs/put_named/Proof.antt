@@ -1,4 +1,4 @@
--- `inst::put_named` meets its contract. Assumes nothing.
+-- `inst_encode::put_named` meets its contract. Assumes nothing.
 use Rattle.inst.specs.Records.{part}
 use Rattle.inst_encode.specs.Encode.{bytesOf}
 use Rattle.inst.proofs.Laws.{part-size}
