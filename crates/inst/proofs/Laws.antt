@@ -1,13 +1,13 @@
 -- Laws of tests, forms and parts of a list that the proofs share. Assumes nothing.
-use Prim.Native.Nat.{ℕ, _<_, _≤_, _+_, _-_}
+use Prim.Native.Nat.{ℕ, zero, suc, _<_, _≤_, _+_, _-_}
 use mathlib.Core.Path.{_≡_, refl, _∙_, ap, sym}
 use mathlib.Core.Bool.{Bool, true, false, cond, _&&_, and-false}
-use mathlib.Core.List.{List, _∷_}
+use mathlib.Core.List.{List, [], _∷_}
 use native.Mathlib.Numerals.{add-one}
 use native.Mathlib.Omega.{arith}
 use lib.Dec.{T, eqb, ltb, leb, lit<, lit≤}
-use lib.ListN.{length, getD, drop, drop-of-length-le}
-use lib.Seq.{drop-cons}
+use lib.ListN.{length, getD, take, drop, drop-of-length-le}
+use lib.Seq.{drop-cons, take-nil, slice}
 use borrow.Author.Tests.{ne-eqb, lt-leb}
 use Rattle.inst.specs.Forms.{Form, none, eight, one, name, undefined, hasNone, hasEight, hasOne, hasName, formOf, numberOf}
 use Rattle.inst.specs.Records.{nameOk}
@@ -80,6 +80,9 @@ pub name-end : (s : List ℕ) (i : ℕ) → length s ≤ i → nameOk (drop i s)
 unfolding nameOk
 name-end s i h = rw (drop-of-length-le s h)
 
--- a part from its start to its end
-pub part-size : (a b : ℕ) → a + b - a ≡ b
-part-size a b = omega arith
+-- `&l[from..to]` lends the slice
+pub lent : {A : Type 0} (from to : ℕ) (l : List A) → take (to - from) (drop from l) ≡ slice from to l
+lent zero to l = let e : to - 0 ≡ to = omega arith in rw e
+lent (suc from) zero l = let e : 0 - suc from ≡ 0 = omega arith in rw e
+lent (suc from) (suc to) [] = take-nil (suc to - suc from)
+lent (suc from) (suc to) (x ∷ xs) = let e : suc to - suc from ≡ to - from = omega arith in rw e (lent from to xs)

@@ -3,7 +3,8 @@ use Prim.Native.Nat.{ℕ, _+_, _<_}
 use mathlib.Core.Bool.{Bool, true, false, _&&_}
 use mathlib.Core.List.{List, [], _∷_}
 use lib.Dec.{eqb, ltb, leb}
-use lib.ListN.{length, getD, take, drop}
+use lib.ListN.{length, getD}
+use lib.Seq.{slice}
 use Rattle.inst.specs.declared.Inst.{Inst}
 use Rattle.inst.specs.Forms.{Form, none, eight, one, name, undefined, formOf}
 
@@ -23,9 +24,9 @@ unfoldable pub nameOk : List ℕ → Bool
 nameOk [] = true
 nameOk (b ∷ bs) = ltb b 128 && nameOk bs
 
--- the part of the image that starts at `start` and is `len` bytes long
+-- a name's bytes, by start and length as document 01 has it
 abbrev pub part : List ℕ → ℕ → ℕ → List ℕ
-part image start len = take len (drop start image)
+part image start len = slice start (start + len) image
 
 -- a name part inside the image and without a byte of 128 or more
 unfoldable pub nameIn : List ℕ → ℕ → ℕ → Bool

@@ -1,25 +1,26 @@
 -- Numbers of bytes, and an image's instructions by their form. Assumes nothing.
 use Prim.Native.Nat.{ℕ, zero, suc, _<_, _≤_, _+_, _*_, _-_, _^_}
 use mathlib.Core.Path.{_≡_, ap}
-use mathlib.Core.List.{List}
+use mathlib.Core.List.{List, _∷_}
 use native.Mathlib.Nat.{le-refl, mul-assoc, mul-le-mul, one-le-pow, pow-succ'}
 use native.Mathlib.Omega.{arith}
 use lib.Dec.{lit≤}
-use lib.ListN.{length, getD, take, drop}
+use lib.ListN.{length, getD}
+use lib.Seq.{slice, slice-cons}
 use borrow.Author.Tests.{lt-leb}
 use Rattle.inst.specs.Forms.{Form, formOf}
-use Rattle.inst.proofs.Laws.{drop-next}
 use Rattle.inst_decode.specs.Decode.{littleEndian, word, readOperand, fromBytes}
 
 -- a number of bytes, with one more byte below
 pub one-lower : (s : List ℕ) (at left number byte : ℕ) → at + 8 ≤ length s → 0 < left → left ≤ 8
-    → number ≡ littleEndian (take (8 - left) (drop (at + left) s)) → byte ≡ getD s (at + (left - 1)) 0
-    → number * 256 + byte ≡ littleEndian (take (8 - (left - 1)) (drop (at + (left - 1)) s))
+    → number ≡ littleEndian (slice (at + left) (at + 8) s) → byte ≡ getD s (at + (left - 1)) 0
+    → number * 256 + byte ≡ littleEndian (slice (at + (left - 1)) (at + 8) s)
 unfolding littleEndian
-one-lower s at left number byte h l k e f =
-    let z : 8 - (left - 1) ≡ suc (8 - left) = omega arith in
-    let n : at + (left - 1) + 1 ≡ at + left = omega arith in
-    rw (z, drop-next s (at + (left - 1)) (omega arith), n, ← e, ← f) (omega arith)
+one-lower s at left number byte h l b e f =
+    let k = at + (left - 1) in
+    let n : suc k ≡ at + left = omega arith in
+    let m : slice k (at + 8) s ≡ getD s k 0 ∷ slice (at + left) (at + 8) s = rw (← n) (slice-cons k (at + 8) s 0 (omega arith) h) in
+    rw (m, ← e, ← f) (omega arith)
 
 -- it still fits as many bytes as are left
 pub room-lower : (left number byte : ℕ) → 0 < left → byte < 256 → (number + 1) * 256 ^ left ≤ 2 ^ 64
@@ -34,11 +35,10 @@ room-lower (suc k) number byte l b h =
     (omega arith, rw z (omega (arith, mul-le-mul below (le-refl (256 ^ k)))))
 
 -- all of them read
-pub none-left : (s : List ℕ) (at left number : ℕ) → left ≤ 0 → number ≡ littleEndian (take (8 - left) (drop (at + left) s)) → number ≡ word s at
+pub none-left : (s : List ℕ) (at left number : ℕ) → left ≤ 0 → number ≡ littleEndian (slice (at + left) (at + 8) s) → number ≡ word s at
 none-left s at left number h e =
-    let z : left ≡ 0 = omega arith in
-    let n : at + 0 ≡ at = omega arith in
-    rw n at (rw z at e)
+    let n : at + left ≡ at = omega arith in
+    rw n at e
 
 -- the instruction at a place of the image, by its form
 pub from-operand : (image : List ℕ) (at : ℕ) (f : Form) → at < length image → formOf (getD image at 0) ≡ f → fromBytes image at ≡ readOperand image at (getD image at 0) f

@@ -4,9 +4,10 @@ use mathlib.Core.Bool.{Bool, cond, _&&_, not}
 use mathlib.Core.List.{List, [], _∷_}
 use lib.Dec.{eqb, ltb, leb}
 use lib.ListN.{length, getD}
+use lib.Seq.{slice}
 use Rattle.inst.specs.declared.Inst.{Inst}
 use Rattle.inst_decode.specs.declared.Decoded.{Decoded}
-use Rattle.inst_decode.specs.declared.Decoded.the-variants.{Undefined, PastEnd, NotAscii, Read}
+use Rattle.inst_decode.specs.declared.Decoded.the-variants.{Undefined, PastEnd, BadName, Read}
 use Rattle.inst.specs.Forms.{Form, none, eight, one, name, undefined, formOf}
 use Rattle.inst.specs.Records.{plain, named, nameOk, part}
 
@@ -19,7 +20,7 @@ pub data Answer : Type 0 where
 unfoldable pub means : Decoded → Answer
 means Undefined = refused 2
 means PastEnd = refused 3
-means NotAscii = refused 4
+means BadName = refused 4
 means (Read i size) = reads i size
 
 -- byte 27 decodes as FDMP, 46
@@ -33,7 +34,7 @@ littleEndian (b ∷ bs) = b + 256 * littleEndian bs
 
 -- the eight bytes from `at` on
 abbrev pub word : List ℕ → ℕ → ℕ
-word image at = littleEndian (part image at 8)
+word image at = littleEndian (slice at (at + 8) image)
 
 -- the length field of a name: the low 48 bits are its magnitude, bits 48 to 62 are ignored
 abbrev pub magnitude : ℕ → ℕ

@@ -16,7 +16,7 @@ use inst::name_ok;
 pub enum Decoded {
     Undefined,
     PastEnd,
-    NotAscii,
+    BadName,
     Read(Inst, usize),
 }
 
@@ -122,7 +122,7 @@ fn read_name(image: &[u8], at: usize, op: u64, field: u64) -> Decoded
             9 + len,
         )
     } else {
-        Decoded::NotAscii
+        Decoded::BadName
     }
 }
 

@@ -5,7 +5,8 @@ use mathlib.Core.Bool.{true, _&&_}
 use mathlib.Core.List.{List}
 use native.Mathlib.Omega.{arith}
 use lib.Dec.{eqb, leb}
-use lib.ListN.{length, length-take, length-drop}
+use lib.ListN.{length}
+use lib.Seq.{length-slice}
 use borrow.Author.Tests.{eqb-true, leb-true}
 use Rattle.inst.specs.declared.Inst.{Inst}
 use Rattle.inst.specs.Forms.{Form, none, eight, one, name, undefined, formOf}
@@ -19,7 +20,7 @@ length-bytes zero n = refl
 length-bytes (suc k) n = ap suc (length-bytes k (n / 256))
 
 part-length : (image : List ℕ) (start len : ℕ) → start + len ≤ length image → length (part image start len) ≡ len
-part-length image start len h = simp (length-take, length-drop) (omega arith)
+part-length image start len h = rw (length-slice start (start + len) image h) (omega arith)
 
 module _ (image : List ℕ) (i : Inst) where
   Sized : Form → Type 0

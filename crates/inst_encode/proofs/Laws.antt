@@ -6,10 +6,10 @@ use native.Mathlib.Nat.{add-zero, add-suc, suc-add}
 use native.Mathlib.Numerals.{add-one}
 use native.Mathlib.Omega.{arith}
 use lib.ListN.{length, set}
-use lib.Seq.{sets, sets-eq}
+use lib.Seq.{sets}
 use Rattle.inst.specs.declared.Inst.{Inst}
 use Rattle.inst.specs.Forms.{Form, none, eight, one, name, undefined, formOf, numberOf}
-use Rattle.inst_encode.specs.Encode.{bytesOf, operandBytes, asBytes, headSize, laid}
+use Rattle.inst_encode.specs.Encode.{bytesOf, operandBytes, asBytes, headSize}
 
 -- what is left of a number's bytes
 pub bytes-next : (size i n : ℕ) → i < size → bytesOf (size - i) n ≡ n % 256 ∷ bytesOf (size - (i + 1)) (n / 256)
@@ -33,8 +33,8 @@ pub stored-both : (l l₁ l₂ vs ws : List ℕ) (at n : ℕ) → length vs ≡ 
 stored-both l l₁ l₂ vs ws at n e p q = q ∙ rw (p, ← e) (sets-more vs l ws at)
 
 -- the first byte, then the operand
-pub laid-both : (out out′ bytes ops : List ℕ) (at op : ℕ) → bytes ≡ op ∷ ops → at + length bytes ≤ length out → out′ ≡ sets (set out at op) (at + 1) ops → out′ ≡ laid out at bytes
-laid-both out out′ bytes ops at op e h p = p ∙ rw (add-one, e) (sets-eq (op ∷ ops) out at (rw e at h))
+pub stored-first : (out out′ bytes ops : List ℕ) (at op : ℕ) → bytes ≡ op ∷ ops → out′ ≡ sets (set out at op) (at + 1) ops → out′ ≡ sets out at bytes
+stored-first out out′ bytes ops at op e p = p ∙ rw (add-one, e)
 
 -- a record's bytes by its form, and what has no operand
 pub bytes-are : (image : List ℕ) (i : Inst) (f : Form) → formOf (i .typ) ≡ f → asBytes image i ≡ i .typ ∷ operandBytes image i f

@@ -1,7 +1,6 @@
 -- Encoding one record (as_bytes), as document 01 has it.
 use Prim.Native.Nat.{ℕ, zero, suc, _+_, _/_, _%_}
 use mathlib.Core.List.{List, [], _∷_, _++_}
-use lib.ListN.{length, take, drop}
 use Rattle.inst.specs.declared.Inst.{Inst}
 use Rattle.inst.specs.Forms.{Form, none, eight, one, name, undefined, formOf}
 use Rattle.inst.specs.Records.{part}
@@ -33,7 +32,3 @@ headSize undefined = 1
 
 unfoldable pub encodedSize : Inst → ℕ
 encodedSize i = headSize (formOf (i .typ)) + i .len
-
--- an output with bytes put in at a place; what is before and behind them stays
-abbrev pub laid : List ℕ → ℕ → List ℕ → List ℕ
-laid out at bytes = take at out ++ bytes ++ drop (at + length bytes) out

@@ -6,7 +6,7 @@ ghost use Prim.Native.Nat.{_+_, _≤_, _<_, _^_};
 ghost use lib.ListN.{length};
 ghost use lib.Seq.{sets};
 ghost use Rattle.inst.specs.Records.{part, wellFormed};
-ghost use Rattle.inst_encode.specs.Encode.{bytesOf, asBytes, encodedSize, laid};
+ghost use Rattle.inst_encode.specs.Encode.{bytesOf, asBytes, encodedSize};
 use inst::EIGHT;
 use inst::Inst;
 use inst::NAME;
@@ -72,7 +72,7 @@ pub fn as_bytes(image: &[u8], inst: Inst, out: &mut [u8], at: usize) -> usize
     requires { ⌜ wellFormed (now image) inst ≡ true ⌝ }
     requires { ⌜ at + length (asBytes (now image) inst) ≤ length (now out) ⌝ }
     ensures { λ r. ⌜ r ≡ length (asBytes (now (image .entry)) inst) ⌝ }
-    ensures { λ r. ⌜ now (out .exit) ≡ laid (now (out .entry)) at (asBytes (now (image .entry)) inst) ⌝ }
+    ensures { λ r. ⌜ now (out .exit) ≡ sets (now (out .entry)) at (asBytes (now (image .entry)) inst) ⌝ }
 {
     out[at] = inst.typ as u8;
     match form(inst.typ) {

@@ -1,9 +1,9 @@
 -- `inst_decode::word_at` meets its contract. The invariant: the bytes from `left` on are read, and what is left fits. Assumes nothing.
 use Prim.Native.Nat.{_+_, _*_, _-_, _^_, _≤_, _<_}
-use mathlib.Core.Path.{_≡_, refl}
+use mathlib.Core.Path.{_≡_}
 use native.Mathlib.Omega.{arith}
 use lib.Dec.{lit<}
-use lib.ListN.{take, drop}
+use lib.Seq.{slice, slice-empty}
 use borrow.Author.Needs.{needs}
 use Rattle.inst_decode.specs.Decode.{littleEndian}
 use Rattle.inst_decode.proofs.Laws.{one-lower, room-lower, none-left}
@@ -12,14 +12,14 @@ use Rattle.inst_decode.proofs.word_at.Tie as tie
 
 abbrev Inv-loop : tie.InvT-loop
 Inv-loop image at number₀ left₀ number left =
-    (left ≤ 8) × (number ≡ littleEndian (take (8 - left) (drop (at + left) image))) × ((number + 1) * 256 ^ left ≤ 2 ^ 64)
+    (left ≤ 8) × (number ≡ littleEndian (slice (at + left) (at + 8) image)) × ((number + 1) * 256 ^ left ≤ 2 ^ 64)
 
 abbrev μ-loop : tie.MeasureT-loop
 μ-loop image at number₀ left₀ number left = left
 
 loop-holds : tie.Need-loop-holds Inv-loop μ-loop
 unfolding littleEndian
-loop-holds c = (search needs, refl, search needs)
+loop-holds c = (search needs, rw slice-empty, search needs)
 
 mul-number : tie.Need-mul-number Inv-loop μ-loop
 mul-number c =

@@ -7,7 +7,7 @@ use lib.Seq.{length-sets}
 use Rattle.inst.specs.Forms.{eight, one, name}
 use Rattle.inst_encode.specs.Encode.{bytesOf, operandBytes, asBytes, headSize, encodedSize}
 use Rattle.inst.proofs.Laws.{is-form}
-use Rattle.inst_encode.proofs.Laws.{bytes-are, no-operand, laid-both}
+use Rattle.inst_encode.proofs.Laws.{bytes-are, no-operand, stored-first}
 use Rattle.inst.proofs.Facts.{typ-byte, name-inside}
 use Rattle.inst_encode.proofs.Facts.{size-is}
 use borrow.Author.Needs.{needs}
@@ -61,7 +61,7 @@ unfolding operandBytes bytesOf
 returns c =
     let s = c .before .before .before .before .before .before .before .before .before in
     let a = bytes-are (s .args .image .now) (s .args .inst) eight (is-form _ _ 2 (c .before .before .before .before .before .form .ensures) (c .before .before .before .before .match .keys1)) in
-    (sym (ap length a), laid-both _ _ _ _ _ _ a (s .pre .1) (c .before .before .put-number .ensures))
+    (sym (ap length a), stored-first _ _ _ _ _ _ a (c .before .before .put-number .ensures))
 
 same-length-2 : tie.Need-same-length-2
 same-length-2 c = simp (c .before .before .put-number2 .ensures, length-sets, length-set)
@@ -71,7 +71,7 @@ unfolding operandBytes bytesOf
 returns-2 c =
     let s = c .before .before .before .before .before .before .before .before .before in
     let a = bytes-are (s .args .image .now) (s .args .inst) one (is-form _ _ 3 (c .before .before .before .before .before .form .ensures) (c .before .before .before .before .match .keys2)) in
-    (sym (ap length a), laid-both _ _ _ _ _ _ a (s .pre .1) (c .before .before .put-number2 .ensures))
+    (sym (ap length a), stored-first _ _ _ _ _ _ a (c .before .before .put-number2 .ensures))
 
 same-length-3 : tie.Need-same-length-3
 same-length-3 c = simp (c .before .before .put-named .ensures, length-sets, length-set)
@@ -81,14 +81,14 @@ unfolding operandBytes encodedSize headSize
 returns-3 c =
     let s = c .before .before .before .before .before .before .before .before .before in
     let e = is-form _ _ 4 (c .before .before .before .before .before .form .ensures) (c .before .before .before .before .match .keys3) in
-    (sym (simp e at (size-is (s .args .image .now) (s .args .inst) (s .pre .0))), laid-both _ _ _ _ _ _ (bytes-are (s .args .image .now) (s .args .inst) name e) (s .pre .1) (c .before .before .put-named .ensures))
+    (sym (simp e at (size-is (s .args .image .now) (s .args .inst) (s .pre .0))), stored-first _ _ _ _ _ _ (bytes-are (s .args .image .now) (s .args .inst) name e) (c .before .before .put-named .ensures))
 
 returns-4 : tie.Need-returns-4
 returns-4 c =
     let s = c .before .before .before .before .before in
     let o = no-operand (s .args .image .now) (s .args .inst) _ _ (c .before .form .ensures) (c .match .rest .0 .0 .1) (c .match .rest .0 .1) (c .match .rest .1) .0 in
     let a : asBytes (s .args .image .now) (s .args .inst) ≡ s .args .inst .typ ∷ [] = rw o at (bytes-are (s .args .image .now) (s .args .inst) _ refl) in
-    (sym (ap length a), laid-both _ _ _ [] _ _ a (s .pre .1) refl)
+    (sym (ap length a), stored-first _ _ _ [] _ _ a refl)
 
 pub as-bytes-spec : {M : Type 1} → statement M
 as-bytes-spec =
