@@ -2,12 +2,13 @@
 use Prim.Native.Nat.{ℕ, zero, suc, _<_, _≤_, _+_, _-_}
 use mathlib.Core.Path.{_≡_, refl, _∙_, ap, sym}
 use mathlib.Core.Bool.{Bool, true, false, cond, _&&_, and-false}
-use mathlib.Core.List.{List, [], _∷_}
+use mathlib.Core.List.{List, [], _∷_, _++_}
+use native.Mathlib.Nat.{add-zero, add-suc, suc-add}
 use native.Mathlib.Numerals.{add-one}
 use native.Mathlib.Omega.{arith}
 use lib.Dec.{T, eqb, ltb, leb, lit<, lit≤}
-use lib.ListN.{length, getD, take, drop, drop-of-length-le}
-use lib.Seq.{drop-cons, take-nil, slice}
+use lib.ListN.{length, getD, set, take, drop, drop-of-length-le}
+use lib.Seq.{drop-cons, take-nil, sets, slice}
 use borrow.Author.Tests.{ne-eqb, lt-leb}
 use Rattle.inst.specs.Forms.{Form, none, eight, one, name, undefined, hasNone, hasEight, hasOne, hasName, formOf, numberOf}
 use Rattle.inst.specs.Records.{nameOk}
@@ -86,3 +87,8 @@ lent zero to l = let e : to - 0 ≡ to = omega arith in rw e
 lent (suc from) zero l = let e : 0 - suc from ≡ 0 = omega arith in rw e
 lent (suc from) (suc to) [] = take-nil (suc to - suc from)
 lent (suc from) (suc to) (x ∷ xs) = let e : suc to - suc from ≡ to - from = omega arith in rw e (lent from to xs)
+
+-- stores behind stores
+pub sets-more : {A : Type 0} (vs l ws : List A) (i : ℕ) → sets (sets l i vs) (i + length vs) ws ≡ sets l i (vs ++ ws)
+sets-more [] l ws i = rw add-zero
+sets-more (v ∷ vs) l ws i = rw (add-suc, ← suc-add i (length vs)) (sets-more vs (set l i v) ws (suc i))

@@ -2,13 +2,13 @@
 use Prim.Native.Nat.{ℕ, suc, _<_, _≤_, _+_, _-_, _/_, _%_}
 use mathlib.Core.Path.{_≡_, refl, _∙_}
 use mathlib.Core.List.{List, [], _∷_, _++_}
-use native.Mathlib.Nat.{add-zero, add-suc, suc-add}
 use native.Mathlib.Numerals.{add-one}
 use native.Mathlib.Omega.{arith}
 use lib.ListN.{length, set}
 use lib.Seq.{sets}
 use Rattle.inst.specs.declared.Inst.{Inst}
 use Rattle.inst.specs.Forms.{Form, none, eight, one, name, undefined, formOf, numberOf}
+use Rattle.inst.proofs.Laws.{sets-more}
 use Rattle.inst_encode.specs.Encode.{bytesOf, operandBytes, asBytes, headSize}
 
 -- what is left of a number's bytes
@@ -25,10 +25,6 @@ pub stored : (l rest whole vs : List ℕ) (at i x : ℕ) → vs ≡ x ∷ rest �
 stored l rest whole vs at i x e h = let n : at + (i + 1) ≡ suc (at + i) = omega arith in rw n (rw e at h)
 
 -- stores behind stores
-pub sets-more : (vs l ws : List ℕ) (i : ℕ) → sets (sets l i vs) (i + length vs) ws ≡ sets l i (vs ++ ws)
-sets-more [] l ws i = rw add-zero
-sets-more (v ∷ vs) l ws i = rw (add-suc, ← suc-add i (length vs)) (sets-more vs (set l i v) ws (suc i))
-
 pub stored-both : (l l₁ l₂ vs ws : List ℕ) (at n : ℕ) → length vs ≡ n → l₁ ≡ sets l at vs → l₂ ≡ sets l₁ (at + n) ws → l₂ ≡ sets l at (vs ++ ws)
 stored-both l l₁ l₂ vs ws at n e p q = q ∙ rw (p, ← e) (sets-more vs l ws at)
 
