@@ -4,5 +4,7 @@ pub mod Library
 pub mod Unbounded
 pub mod Bounded
 pub mod Unique
+pub mod Exact
+pub mod Special
 pub mod Rounded
 mod Vectors

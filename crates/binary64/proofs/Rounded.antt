@@ -1,7 +1,7 @@
--- The theorems of specs/Theorems, proved: those on rounding from Bounded and Unique, those on the operations from them.
-use mathlib.Core.Path.{_≡_, refl, sym, subst, _∙_}
+-- The theorems of specs/Theorems, proved: those on rounding from Bounded, Unique and Exact, those on the operations from them.
+use mathlib.Core.Path.{_≡_, refl, sym, ap, subst, _∙_}
 use Prim.Native.Nat.{ℕ, _+_, _-_, _*_, _^_, _≤_, _<_}
-use native.Mathlib.Nat.{le-refl, lt-irrefl, mul-assoc, add-mul}
+use native.Mathlib.Nat.{le-refl, le-of-lt, lt-irrefl, mul-one, mul-assoc, add-mul}
 use native.Mathlib.Omega.{arith}
 use mathlib.Core.Bool.{Bool, true, false, not, _&&_, and-false, Bool·beq, cond}
 use borrow.Author.Tests.{ne-eqb, ltb-true, le-ltb}
@@ -9,9 +9,11 @@ use lib.Dec.{ltb}
 use lib.Pow.{pow-pos}
 use Rattle.binary64.proofs.Bounded.{round-nearest}
 use Rattle.binary64.proofs.Unique.{unique, over, reaches}
-use Rattle.binary64.specs.Rounding.{count, units, roundPattern}
-use Rattle.binary64.specs.Binary64.{infinity, signed, Exact, exactly, exactSum, exactProduct, exactQuotient, rounded, sum, opposite, product, quotient, sumBits, differenceBits, productBits, quotientBits}
-use Rattle.binary64.specs.Theorems.{Theorems, IsRounded, RoundsToNearestEven, OnlyOneIsNearestEven, OverflowsFrom, SumIsRounded, ZeroSumIsSigned, DifferenceIsRounded, ProductIsRounded, QuotientIsRounded}
+use Rattle.binary64.proofs.Exact.{exact-nearest, signed-value, Encoded, encoded, value-encoded, Pattern, pattern, pattern-of, below-infinity}
+use Rattle.binary64.proofs.Special.{special}
+use Rattle.binary64.specs.Rounding.{count, units, NearestEven, roundPattern}
+use Rattle.binary64.specs.Binary64.{infinity, finite, value, signed, Exact, exactly, exactSum, exactProduct, exactQuotient, rounded, sum, opposite, product, quotient, sumBits, differenceBits, productBits, quotientBits, ofWhole}
+use Rattle.binary64.specs.Theorems.{Theorems, IsRounded, RoundsToNearestEven, OnlyOneIsNearestEven, OverflowsFrom, ExactResultIsGiven, SumIsRounded, ZeroSumIsSigned, DifferenceIsRounded, ZeroDifferenceIsSigned, ProductIsRounded, QuotientIsRounded, WholeIsRounded, WholeIsExact}
 
 nearest : RoundsToNearestEven
 nearest n den D = round-nearest 52 infinity n den (omega arith) D
@@ -42,6 +44,19 @@ overflows n den D =
 
     double : (d T : ℕ) → T ≡ 2 * d → d ≤ n → T ≤ 2 * n
     double d T e h = omega arith
+
+-- ---- exact results
+-- the pattern p of an exact result is the only nearest one
+only-exact : (n den p q : ℕ) → 0 < den → p < infinity → n ≡ units 52 p * den → NearestEven 52 infinity n den q → q ≡ p
+only-exact n den p q D h e Q = only-one n den q p D Q (exact-nearest 52 infinity n den p D (le-of-lt h) e)
+
+exact : ExactResultIsGiven
+exact e d u r D B v N R = go (value-encoded d (e .sign) u B v)
+  where
+    go : Encoded d (e .sign) u → r ≡ d
+    go (encoded p h f g) =
+        let q : R .magnitude ≡ p = only-exact (e .numerator) (e .denominator) p (R .magnitude) D h (N ∙ ap (λ (z : ℕ). z * e .denominator) (sym f)) (R .nearest) in
+        R .with-sign ∙ ap (signed (e .sign)) q ∙ sym g
 
 -- ---- the operations
 is-rounded : (e : Exact) → 0 < e .denominator → IsRounded e (rounded e)
@@ -80,6 +95,10 @@ zero-sum : ZeroSumIsSigned
 unfolding sumBits sum
 zero-sum a b s u t v p q e = rw (p, q) (zero-signed s u t v e)
 
+zero-difference : ZeroDifferenceIsSigned
+unfolding differenceBits sum opposite
+zero-difference a b s u t v p q e = rw (p, q) (zero-signed s u (not t) v e)
+
 difference-rounded : DifferenceIsRounded
 unfolding differenceBits sum opposite
 difference-rounded a b s u t v p q = rw (p, q) (is-rounded (exactSum s u (not t) v) (sum-fraction s u (not t) v))
@@ -92,14 +111,34 @@ quotient-rounded : QuotientIsRounded
 unfolding quotientBits quotient
 quotient-rounded a b s u t v p q D = rw (p, q, ne-eqb v 0 (λ e. lt-irrefl 0 (subst (λ (z : ℕ). 0 < z) e D))) (is-rounded (exactQuotient s u t v) D)
 
+-- ---- whole numbers
+whole-rounded : WholeIsRounded
+unfolding ofWhole
+whole-rounded n = is-rounded (exactly false (n * 2 ^ 1074) 1) (le-refl 1)
+
+whole-exact : WholeIsExact
+unfolding ofWhole
+whole-exact n h = go (pattern-of 52 1074 n h)
+  where
+    go : Pattern 52 (n * 2 ^ 1074) → value (rounded (exactly false (n * 2 ^ 1074) 1)) ≡ finite false (n * 2 ^ 1074)
+    go (pattern p e) =
+        let l : p < infinity = below-infinity n p h e in
+        let q = only-exact (n * 2 ^ 1074) 1 p _ (le-refl 1) l (sym (mul-one (units 52 p) ∙ e)) (nearest (n * 2 ^ 1074) 1 (le-refl 1)) in
+        ap (λ (z : ℕ). value (signed false z)) q ∙ signed-value false p l ∙ ap (finite false) e
+
 pub theorems : Theorems
 theorems = record {
   nearest = nearest;
   only-one = only-one;
   overflows = overflows;
+  exact = exact;
   sum = sum-rounded;
   zero-sum = zero-sum;
   difference = difference-rounded;
+  zero-difference = zero-difference;
   product = product-rounded;
   quotient = quotient-rounded;
+  special = special;
+  whole = whole-rounded;
+  whole-exact = whole-exact;
 }

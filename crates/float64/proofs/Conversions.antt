@@ -1,23 +1,20 @@
 -- Conversions between patterns and whole numbers, and the test against zero, from the library's values to those of crate binary64.
 use mathlib.Core.Path.{_≡_, refl, sym, ap, _∙_, subst}
 use Prim.Native.Nat.{ℕ, _+_, _-_, _*_, _/_, _^_, _≤_, _<_, min}
-use native.Mathlib.Nat.{le-refl, one-mul, zero-mul, le-div-iff-mul-le, mul-one, mul-right-comm, eq-of-mul-eq-mul-right}
+use native.Mathlib.Nat.{le-refl, one-mul, zero-mul, le-div-iff-mul-le, mul-one}
 use native.Mathlib.Omega.{arith}
 use mathlib.Core.Bool.{Bool, true, false, _||_}
 use borrow.Author.Tests.{ltb-true, ltb-false, le-ltb}
 use lib.IntN.{ℤ, pos, negℤ}
 use lib.Dec.{T, ltb}
 use lib.Pow.{pow-pos}
-use lib.Ieee.{Float, nan, inf, fin, binary64, up, down, lt, le, round, ofInt, ofBits, toBits, toUnsigned, toSigned}
-use lib.Ieee.Bits.{ofBits-toBits}
-use lib.Ieee.Back.{round-whole}
-use lib.Ieee.Exact.{HasValue}
-use lib.Ieee.Fits.{down-pos, round-fits}
+use lib.Ieee.{Float, nan, inf, fin, binary64, up, down, lt, le, ofInt, ofBits, toBits, toUnsigned, toSigned}
+use lib.Ieee.Fits.{down-pos}
 use lib.Ieee.Nearest.{div-same}
 use Rattle.float64.proofs.Decode.{Means, not-number, endless, number, read}
 use Rattle.float64.proofs.Encode.{round-bits}
 use Rattle.float64.proofs.Operations.{ltb-same}
-use Rattle.binary64.specs.Binary64.{Value, finite, value, signedWhole, unsignedWhole, negative, toI64, toU64, belowZero, ofWhole}
+use Rattle.binary64.specs.Binary64.{Value, finite, signedWhole, unsignedWhole, negative, toI64, toU64, belowZero, ofWhole}
 
 no : {X : Type 0} → false ≡ true → X
 no e = absurd (subst T (sym e) tt)
@@ -146,18 +143,3 @@ module _ (a : ℕ) {x : Float} (p : x ≡ ofBits binary64 a) where
 pub rounds : (n : ℕ) → toBits binary64 (ofInt binary64 (pos n)) ≡ ofWhole n
 unfolding ofInt ofWhole
 rounds n = round-bits false n 1 (le-refl 1)
-
--- a float that is the whole number n stands for n
-is-whole : {p : Value} {x : Float} (n : ℕ) → Means p x → HasValue x false n 1 → p ≡ finite false (n * 2 ^ 1074)
-is-whole n not-number v = absurd v
-is-whole n (endless s) v = absurd v
-is-whole n (number s u m e a) v =
-    ap (λ (z : Bool). finite z u) (v .0)
-    ∙ ap (finite false) (eq-of-mul-eq-mul-right (down e) (down-pos e) u (n * 2 ^ 1074)
-    (sym a ∙ ap (λ (z : ℕ). z * 2 ^ 1074) (sym (mul-one (m * up e)) ∙ v .1) ∙ mul-right-comm n (down e) (2 ^ 1074)))
-
-pub whole-exact : (n : ℕ) → n ≤ 2 ^ 53 → value (ofWhole n) ≡ finite false (n * 2 ^ 1074)
-unfolding ofInt
-whole-exact n h =
-    let y = round binary64 false n 1 in
-    ap value (sym (rounds n)) ∙ is-whole n (read (toBits binary64 y) (sym (ofBits-toBits binary64 y (round-fits binary64 false n 1)))) (round-whole binary64 false n h)
