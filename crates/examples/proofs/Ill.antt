@@ -12,14 +12,14 @@ use Rattle.machine.specs.declared.Label.{Label}
 use Rattle.machine.specs.Load.{same, head}
 use Rattle.machine.specs.Lookup.{walk, lookupFrom, lookup}
 use Rattle.machine.specs.Change.{withCalls, moved}
-use Rattle.machine.specs.Step.{Stepped, next, dumps, trap, ill, _must_else_then_, opOf, jumpIf, jump, callTo, call, dump, exec, wellState, step}
+use Rattle.machine.specs.Step.{Stepped, succeeds, outputs, trap, ill, _must_else_then_, opOf, jumpIf, jump, callTo, call, dump, exec, wellState, step}
 
 -- what a step comes to: 0 it goes on, 1 it dumps, a trap's number, or 34
 comes : Stepped → ℕ
-comes (next m) = 0
-comes (dumps c m m') = 1
+comes (succeeds m) = 0
+comes (outputs c m) = 1
 comes (trap t m) = t
-comes (ill m) = 34
+comes ill = 34
 
 -- three names of one byte: f, g, and one that is no name
 image : List ℕ
@@ -32,8 +32,8 @@ label : ℕ → ℕ → ℕ → ℕ → Label
 label start len target n = record { start = start; len = len; target = target; next = n }
 
 at : ℕ → ℕ → ℕ → Machine
-at height depth ip =
-    record { stack = 5 ∷ []; height = height; calls = []; depth = depth; memory = []; flags = 0; ip = ip; halted = false }
+at height callHeight ip =
+    record { stack = 5 ∷ []; height = height; calls = []; «call_height» = callHeight; memory = []; flags = 0; ip = ip; halted = false }
 
 -- the step of one instruction alone in its table
 alone : Inst → List Label → Machine → ℕ

@@ -2,15 +2,16 @@
 use Prim.Native.Nat.{ℕ, zero, suc, _+_, _*_, _-_, _≤_, _<_}
 use mathlib.Core.Path.{_≡_, refl, ap, _∙_, sym}
 use mathlib.Core.List.{List, [], _∷_, _++_}
-use native.Mathlib.Nat.{zero-add, suc-add}
+use native.Mathlib.Nat.{zero-add, add-zero, suc-add}
 use native.Mathlib.Omega.{arith}
 use lib.ListN.{length, getD, take, drop, length-append}
-use lib.Seq.{drop-append-add, getD-drop, drop-drop}
+use lib.Seq.{drop-append-add, getD-drop, drop-drop, slice-empty}
 use borrow.Author.Tests.{lt-ltb, le-ltb, lt-leb, le-leb}
 use Rattle.inst.specs.declared.Inst.{Inst}
 use Rattle.inst.specs.Forms.{formOf, hasNone, hasEight, hasOne, hasName}
 use Rattle.inst.specs.Records.{nameOk, named}
 use Rattle.inst_decode.specs.Decode.{reads, littleEndian, word, isNegative, readName, readOperand, fromBytes}
+use Rattle.inst.proofs.Laws as laws
 use Rattle.machine.specs.declared.Label.{Label}
 use Rattle.machine.specs.Limits.{instLimit, labelRecords}
 use Rattle.machine.specs.Load.{linked, Scan, stops, begin, scanOne, andThen, scan, rejects, finished, loads}
@@ -47,12 +48,16 @@ module _ (n k : ℕ) (h : k < n) where
 
   field : word (definitions n) (k * 9 + 1) ≡ 0
   unfolding definitions littleEndian
-  field = ap (λ (l : List ℕ). littleEndian (take 8 l)) (sym (drop-drop 1 (k * 9) (definitions n)) ∙ ap (drop 1) behind)
+  field =
+      let from = k * 9 + 1 in
+      let z : from + 8 - from ≡ 8 = omega arith in
+      ap littleEndian (sym (laws.lent from (from + 8) (definitions n)) ∙ ap (λ (i : ℕ). take i (drop from (definitions n))) z)
+      ∙ ap (λ (l : List ℕ). littleEndian (take 8 l)) (sym (drop-drop 1 (k * 9) (definitions n)) ∙ ap (drop 1) behind)
 
   read : fromBytes (definitions n) (k * 9) ≡ reads (named 21 (k * 9 + 9) 0) 9
   unfolding fromBytes readOperand readName formOf hasNone hasEight hasOne hasName isNegative nameOk
   read =
-      simp (size n, lt-leb (n * 9) (k * 9) (omega arith), first, le-ltb (n * 9) (k * 9 + 9) (omega arith), field, le-ltb (n * 9) (k * 9 + 9 + 0) (omega arith))
+      simp (size n, lt-leb (n * 9) (k * 9) (omega arith), first, le-ltb (n * 9) (k * 9 + 9) (omega arith), field, add-zero (k * 9 + 9), slice-empty (k * 9 + 9) (definitions n))
 
 linked-size : (i : Inst) (target : ℕ) (ls : List Label) → 0 < length ls → length (linked i target ls) ≡ length ls + 1
 unfolding linked

@@ -3,3 +3,4 @@ mod Nops
 mod Labels
 mod Ill
 mod Encode
+mod Sample

@@ -15,17 +15,17 @@ use Rattle.inst_decode.specs.Decode as decode
 use Rattle.inst_encode.specs.Encode.{bytesOf}
 use Rattle.machine.specs.declared.Label.{Label}
 use Rattle.machine.specs.declared.Ending.{Ending}
-use Rattle.machine.specs.declared.Ending.the-variants.{Limit, Full, Trapped}
+use Rattle.machine.specs.declared.Ending.the-variants.{Halted, Limit, Number}
 use Rattle.machine.specs.Load.{same, startName, linked, scanOne, andThen, scan, lastOf, anyNative, lastIsHalt, closed, Loaded, Load, rejects, accepts, checked, entered, finished, loads, load, instsAfter, labelsAfter, fresh, countOf}
 use Rattle.machine.specs.Lookup.{walk, lookupFrom, lookup}
 use Rattle.machine.specs.Change.{withStack, withCalls, moved, stopped}
 use Rattle.machine.specs.Step.{_must_else_then_, opOf, push, pop, callTo, call, ret, dump, exec, wellState, step}
-use Rattle.machine.specs.Run.{follow, course, Result, reported, run, Request, runs, totalSteps, allDumped, lastMachine}
+use Rattle.machine.specs.Run.{isIll, isDump, before, taken, turn, course, Result, reported, run}
 use Rattle.machine.specs.Effects.{effects, lostAt, effect, dropLast, openCalls}
-use Rattle.machine.specs.History.{State, start, History, none, end, advance, stepped, further, history}
-use Rattle.machine.specs.Statements.{Agrees, lent}
+use Rattle.machine.specs.History.{State, initial, History, none, end, advance, stepped, programOf, further, history}
+use Rattle.machine.specs.Statements.{Request, runs, totalSteps, allDumped, lastMachine, Counted, Below, lent}
 use Rattle.inst.proofs.Laws.{and-left, and-right}
-use Rattle.machine.proofs.Runs.{runs-are-one-history}
+use Rattle.machine.proofs.Runs.{runs-from, runs-are-one-history}
 
 -- images, written with the encoder's definitions
 
@@ -42,7 +42,7 @@ image =
 
 -- what it loads to
 ofLoad : Load → Loaded
-ofLoad (rejects n) = record { insts = []; labels = []; start = 0 }
+ofLoad (rejects n) = record { insts = []; labels = []; ip = 0 }
 ofLoad (accepts l) = l
 
 loaded : Loaded
@@ -94,6 +94,10 @@ line r = record { ending = r .ending; steps = r .steps; dumped = r .dumped; buff
 report : Ending → ℕ → ℕ → List ℕ → Line
 report e s d b = record { ending = e; steps = s; dumped = d; buffer = b }
 
+-- demand 3's history of an image
+historyOf : List ℕ → Loaded → ℕ → History
+historyOf image l n = history (programOf image l) (initial (fresh l)) n
+
 -- the open calls, the height and the dumps of a history, if there is one
 told : History → List ℕ × ℤ × List ℕ
 told none = ([], pos 99, [])
@@ -117,16 +121,16 @@ record Computed : Type 0 where
   -- HALT is appended, so eleven
   count : length (loaded .insts) ≡ 11
   lines-are : map line results
-      ≡ report Limit 3 0 (7 ∷ []) ∷ report Full 2 1 (five ∷ []) ∷ report (Trapped 20) 4 1 (five ∷ 9 ∷ []) ∷ report (Trapped 20) 1 0 [] ∷ []
+      ≡ report Limit 3 0 (7 ∷ []) ∷ report (Number 33) 2 1 (five ∷ []) ∷ report (Number 20) 4 1 (five ∷ 9 ∷ []) ∷ report (Number 20) 1 0 [] ∷ []
   steps : totalSteps results ≡ 10
   dumped : allDumped results ≡ five ∷ five ∷ []
   -- inside f, one call is open; behind the dumps none, and the cell is popped
-  inside : told (history image loaded 3) ≡ (2 ∷ [], pos 1, [])
-  behind : told (history image loaded 10) ≡ ([], pos 0, five ∷ five ∷ [])
+  inside : told (historyOf image loaded 3) ≡ (2 ∷ [], pos 1, [])
+  behind : told (historyOf image loaded 10) ≡ ([], pos 0, five ∷ five ∷ [])
   -- a CALL of no function, tried twice: an open call at each try, and its address stacked each time
-  retried : told (history lost (ofLoad (loads lost)) 3) ≡ (1 ∷ 1 ∷ [], pos 0, [])
+  retried : told (historyOf lost (ofLoad (loads lost)) 3) ≡ (1 ∷ 1 ∷ [], pos 0, [])
   -- HALT is the last step of a history
-  halted : history (started []) (ofLoad (loads (started []))) 3 ≡ none
+  halted : historyOf (started []) (ofLoad (loads (started []))) 3 ≡ none
   -- 2 first byte undefined, 3 operand past the end, 4 a name byte of 128, 7 no `_start`, 8 a NATIVE
   refused : map (λ bs. number (loads bs)) ((47 ∷ []) ∷ (1 ∷ 0 ∷ []) ∷ named 12 (128 ∷ []) ∷ (69 ∷ []) ∷ started (named 37 []) ∷ []) ≡ 2 ∷ 3 ∷ 4 ∷ 7 ∷ 8 ∷ []
   -- 10 a table too short, before all others
@@ -135,7 +139,7 @@ record Computed : Type 0 where
   long : number (loads (replicate 16385 0)) ≡ 1
 
 computed : Computed
-unfolding image named loaded ofLoad insts labels bytesOf load loads same linked scanOne andThen scan lastOf anyNative lastIsHalt closed checked entered finished decode.fromBytes decode.readName decode.readOperand decode.littleEndian decode.typeOf decode.isNegative formOf hasNone hasEight hasOne hasName nameOk nameIn fits wellFormed requests results line report runs run reported course follow step wellState exec push pop callTo call ret dump _must_else_then_ opOf walk lookupFrom lookup withStack withCalls moved fresh lent instsAfter labelsAfter totalSteps allDumped told number started lost history start further stepped advance effects lostAt effect dropLast openCalls stopped
+unfolding image named loaded ofLoad insts labels bytesOf load loads same linked scanOne andThen scan lastOf anyNative lastIsHalt closed checked entered finished decode.fromBytes decode.readName decode.readOperand decode.littleEndian decode.typeOf decode.isNegative formOf hasNone hasEight hasOne hasName nameOk nameIn fits wellFormed requests results line report runs run reported course turn taken before isIll isDump step wellState exec push pop callTo call ret dump _must_else_then_ opOf walk lookupFrom lookup withStack withCalls moved fresh lent instsAfter labelsAfter totalSteps allDumped told number started lost historyOf history initial further stepped advance effects lostAt effect dropLast openCalls stopped
 computed =
     record {
       accepted = refl;
@@ -153,16 +157,17 @@ computed =
     }
 
 -- through the theorem: the four runs are one history of ten steps, and its dumps are theirs
-retold : (s : State) × (history image loaded 10 ≡ end s) × (s .dumps ≡ five ∷ five ∷ []) × (s .machine ≡ lastMachine (fresh loaded) results)
-unfolding results
+retold : (s : State) × (historyOf image loaded 10 ≡ end s) × (s .dumps ≡ five ∷ five ∷ []) × (s .machine ≡ lastMachine (fresh loaded) results)
+unfolding results historyOf
 retold =
-    let t = runs-are-one-history image insts labels loaded bytes (computed .accepted) requests in
+    let t = runs-are-one-history image insts labels loaded bytes (computed .accepted) requests results (runs-from _ _ requests) in
     (t .last, rw (computed .steps) at (t .history-is), t .dumps-are ∙ computed .dumped, t .machine-is)
 
 -- and at every point of it height and return addresses are those counted
-counted : (k : ℕ) → k ≤ 10 → (s : State) × (history image loaded k ≡ end s) × Agrees 11 s
-unfolding results
+counted : (k : ℕ) → k ≤ 10 → (s : State) × (historyOf image loaded k ≡ end s) × Counted s × Below 11 (s .machine)
+unfolding results historyOf
 counted k h =
-    let t = runs-are-one-history image insts labels loaded bytes (computed .accepted) requests in
+    let t = runs-are-one-history image insts labels loaded bytes (computed .accepted) requests results (runs-from _ _ requests) in
     let c : countOf loaded ≡ 11 = computed .count in
-    rw c at (t .always k (rw (computed .steps) h))
+    let a = t .always k (rw (computed .steps) h) in
+    (a .0, a .1, a .2, rw c at (a .3))

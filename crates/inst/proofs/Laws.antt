@@ -1,7 +1,7 @@
 -- Laws of tests, forms and parts of a list that the proofs share. Assumes nothing.
 use Prim.Native.Nat.{ℕ, zero, suc, _<_, _≤_, _+_, _-_}
 use mathlib.Core.Path.{_≡_, refl, _∙_, ap, sym}
-use mathlib.Core.Bool.{Bool, true, false, cond, _&&_, and-false}
+use mathlib.Core.Bool.{Bool, true, false, cond, _&&_, _||_, and-false}
 use mathlib.Core.List.{List, [], _∷_, _++_}
 use native.Mathlib.Nat.{add-zero, add-suc, suc-add}
 use native.Mathlib.Numerals.{add-one}
@@ -28,6 +28,14 @@ and-left false b t = t
 pub and-right : (a b : Bool) → (a && b) ≡ true → b ≡ true
 and-right true b t = t
 and-right false b t = cc
+
+pub or-left : (a b : Bool) → (a || b) ≡ false → a ≡ false
+or-left true b h = h
+or-left false b h = refl
+
+pub or-right : (a b : Bool) → (a || b) ≡ false → b ≡ false
+or-right true b h = cc
+or-right false b h = h
 
 -- a number that is no byte has no form
 module _ (op : ℕ) (h : 255 < op) where

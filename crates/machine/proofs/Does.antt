@@ -2,10 +2,10 @@
 -- Assumes nothing.
 use Prim.Native.Nat.{ℕ, _+_, _-_, _≤_, _<_}
 use mathlib.Core.Path.{_≡_, refl, sym, ap, _∙_}
-use mathlib.Core.Bool.{Bool, true, false}
+use mathlib.Core.Bool.{Bool, true, false, _&&_}
 use mathlib.Core.List.{List, [], _∷_}
 use native.Mathlib.Omega.{arith}
-use lib.Dec.{eqb}
+use lib.Dec.{eqb, leb, lit≤}
 use lib.IntN.{ℤ, pos, negℤ, _+ℤ_}
 use lib.ListN.{getD, set}
 use borrow.Author.Tests.{ltb-true, leb-true}
@@ -14,22 +14,22 @@ use Rattle.integer.specs.Integers.{inc, dec}
 use Rattle.inst.specs.declared.Inst.{Inst}
 use Rattle.machine.specs.declared.Machine.{Machine}
 use Rattle.machine.specs.Limits.{stackLimit, callLimit}
-use Rattle.machine.specs.Lookup.{Program, Found, illChain, noLabel, target, lookup}
-use Rattle.machine.specs.Change.{withStack, withCalls, withMemory, withFlags, moved, stopped, onward, poppedBy, stacked}
-use Rattle.machine.specs.Step.{Stepped, next, dumps, trap, ill, Integer, Float, Conversion, Op, NOP, PUSH, POP, INC, DEC, CMP, SWAP, DUP, BOT, JCC, JMP, CALL, RET, DMP, READ, WRITE, HALT, integer, float, conversion, push, pop, adjust, integerStep, floatStep, compare, swap, dup, bot, jumpIf, jump, callTo, call, ret, dump, convert, read, write, exec, opOf, instAt, wellState, step}
-use Rattle.machine.specs.Effects.{Effects, Calls, calls, returns, keeps, listed, effects, lostAt, lost}
+use Rattle.machine.specs.Lookup.{Program, Found, illChain, noLabel, leadsTo, lookup}
+use Rattle.machine.specs.Change.{callHeight, withStack, withCalls, withMemory, withFlags, moved, stopped, onward, poppedBy, stacked}
+use Rattle.machine.specs.Step.{Stepped, succeeds, outputs, trap, ill, Integer, Float, Conversion, Op, NOP, PUSH, POP, INC, DEC, CMP, SWAP, DUP, BOT, JCC, JMP, CALL, RET, DMP, READ, WRITE, HALT, integer, float, conversion, push, pop, adjust, integerStep, floatStep, compare, swap, dup, bot, jumpIf, jump, callTo, call, ret, dump, convert, read, write, exec, opOf, instAt, wellState, step}
+use Rattle.machine.specs.Effects.{Effects, Calls, opens, closes, keeps, listed, effects, lostAt, lost}
 use Rattle.machine.specs.History.{effectsAt}
-use Rattle.machine.specs.Statements.{addressed, trapLeaves, TrapsLeave}
-use Rattle.inst.proofs.Laws.{by-test, never}
-use Rattle.machine.proofs.Cases.{addressed-is, must-case, level, less-by, popped-none}
+use Rattle.machine.specs.Steps.{CallsLeft, TrapLeft, TrapsLeave}
+use Rattle.inst.proofs.Laws.{by-test, never, and-left, and-right}
+use Rattle.machine.proofs.Cases.{must-case, level, less-by}
 
 -- the call stack after a step that didn't trap, by the instruction's effect on it; G holds of a pointer where the machine may stand
 unfoldable pub CallsAre : (ℕ → Type 0) → Calls → Machine → Machine → Type 0
-CallsAre G keeps m m' = (m' .calls ≡ m .calls) × (m' .depth ≡ m .depth) × G (m' .ip)
-CallsAre G calls m m' =
-    (m .depth < callLimit) × (m' .calls ≡ set (m .calls) (m .depth) (m .ip + 1)) × (m' .depth ≡ m .depth + 1) × G (m .ip + 1) × G (m' .ip)
-CallsAre G returns m m' =
-    (0 < m .depth) × (m' .calls ≡ m .calls) × (m' .depth ≡ m .depth - 1) × (m' .ip ≡ getD (m .calls) (m .depth - 1) 0)
+CallsAre G keeps m m' = (m' .calls ≡ m .calls) × (callHeight m' ≡ callHeight m) × G (m' .ip)
+CallsAre G opens m m' =
+    (callHeight m < callLimit) × (m' .calls ≡ set (m .calls) (callHeight m) (m .ip + 1)) × (callHeight m' ≡ callHeight m + 1) × G (m .ip + 1) × G (m' .ip)
+CallsAre G closes m m' =
+    (0 < callHeight m) × (m' .calls ≡ m .calls) × (callHeight m' ≡ callHeight m - 1) × (m' .ip ≡ getD (m .calls) (callHeight m - 1) 0)
 
 pub record Moves (G : ℕ → Type 0) (e : Effects) (m m' : Machine) : Type 0 where
   pub gained : pos (m' .height) ≡ pos (m .height) +ℤ e .gain
@@ -38,16 +38,16 @@ pub record Moves (G : ℕ → Type 0) (e : Effects) (m m' : Machine) : Type 0 wh
 
 -- 27 is only where an address was stacked
 unfoldable pub Room : (ℕ → Type 0) → Calls → ℕ → Machine → Type 0
-Room G keeps t m = Unit {0}
-Room G calls t m = eqb t 27 ≡ true → (m .depth < callLimit) × G (m .ip + 1)
-Room G returns t m = Unit {0}
+Room G keeps t m = eqb t 27 ≡ false
+Room G opens t m = eqb t 27 ≡ true → (callHeight m < callLimit) × G (m .ip + 1)
+Room G closes t m = eqb t 27 ≡ false
 
 -- I holds where a lookup may find an ill chain
 unfoldable pub Does : (ℕ → Type 0) → Type 0 → Effects → Machine → Stepped → Type 0
-Does G I e m (next m') = Moves G e m m'
-Does G I e m (dumps c m₀ m') = (m₀ ≡ m) × Moves G e m m'
-Does G I e m (trap t m') = (lost e t ≤ m .height) × (m' ≡ trapLeaves e t m) × Room G (e .on-calls) t m
-Does G I e m (ill m₀) = (m₀ ≡ m) × I
+Does G I e m (succeeds m') = Moves G e m m'
+Does G I e m (outputs c m') = Moves G e m m'
+Does G I e m (trap t m') = TrapLeft e t m m' × Room G (e .on-calls) t m
+Does G I e m ill = I
 
 -- HALT is the one instruction behind which the pointer is not always one further or at a target
 unfoldable pub halts : Op → Bool
@@ -72,55 +72,90 @@ halts (integer k) = false
 halts (float k) = false
 halts (conversion k) = false
 
+-- a trap's number is one of 20 to 32
+abbrev numbered : ℕ → Bool
+numbered t = leb 20 t && leb t 32
+
 module _ (G : ℕ → Type 0) (I : Type 0) (m : Machine) where
   -- where the machine may stand after a lookup
   unfoldable pub Leads : Found → Type 0
   Leads illChain = I
   Leads noLabel = Unit {0}
-  Leads (target i) = G i
+  Leads (leadsTo i) = G i
 
-  -- a trap that leaves everything
-  untouched : (g : ℤ) (n : ℕ) (ts : List ℕ) (t : ℕ) → lostAt n ts t ≡ 0 → Does G I (listed g n ts keeps) m (trap t m)
-  unfolding Does addressed Room
-  untouched g n ts t z = rw z (omega arith, sym (popped-none m), tt)
+  -- a trap that leaves the machine as it was
+  as-it-was : (e : Effects) (t : ℕ) → numbered t ≡ true → lost e t ≡ 0 → eqb t 27 ≡ false → TrapLeft e t m m
+  unfolding CallsLeft
+  as-it-was e t n z o =
+      record {
+        number-from = leb-true 20 t (and-left _ _ n);
+        number-to = leb-true t 32 (and-right (leb 20 t) _ n);
+        enough = rw z (omega arith);
+        height-is = rw z (omega arith);
+        stack-is = refl;
+        calls-are = rw o (refl, refl);
+        memory-is = refl;
+        flags-are = refl;
+        pointer-is = refl;
+        halted-is = refl;
+      }
+
+  untouched : (g : ℤ) (n : ℕ) (ts : List ℕ) (t : ℕ) → numbered t ≡ true → lostAt n ts t ≡ 0 → eqb t 27 ≡ false → Does G I (listed g n ts keeps) m (trap t m)
+  unfolding Does Room
+  untouched g n ts t d z o = (as-it-was (listed g n ts keeps) t d z o, o)
 
   -- a trap that pops n cells
-  loses : (g : ℤ) (n : ℕ) (ts : List ℕ) (t : ℕ) → lostAt n ts t ≡ n → n ≤ m .height → Does G I (listed g n ts keeps) m (trap t (poppedBy n m))
-  unfolding Does addressed Room
-  loses g n ts t z l = rw z (l, refl, tt)
+  loses : (g : ℤ) (n : ℕ) (ts : List ℕ) (t : ℕ) → numbered t ≡ true → lostAt n ts t ≡ n → eqb t 27 ≡ false → n ≤ m .height
+      → Does G I (listed g n ts keeps) m (trap t (poppedBy n m))
+  unfolding Does CallsLeft Room withStack
+  loses g n ts t d z o l = (
+    record {
+      number-from = leb-true 20 t (and-left _ _ d);
+      number-to = leb-true t 32 (and-right (leb 20 t) _ d);
+      enough = rw z l;
+      height-is = rw z;
+      stack-is = refl;
+      calls-are = rw o (refl, refl);
+      memory-is = refl;
+      flags-are = refl;
+      pointer-is = refl;
+      halted-is = refl;
+    },
+    o,
+  )
 
   -- a step to m' that leaves the call stack, with the effect d on the height
   on : (d : ℤ) (n : ℕ) (ts : List ℕ) (m' : Machine) → pos (m' .height) ≡ pos (m .height) +ℤ d → (m .height ≤ stackLimit → m' .height ≤ stackLimit)
-      → m' .calls ≡ m .calls → m' .depth ≡ m .depth → G (m' .ip) → Does G I (listed d n ts keeps) m (next m')
+      → m' .calls ≡ m .calls → callHeight m' ≡ callHeight m → G (m' .ip) → Does G I (listed d n ts keeps) m (succeeds m')
   unfolding Does CallsAre
   on d n ts m' h l c e g = record { gained = h; limited = l; called = (c, e, g) }
 
   -- the same with k cells less
   less : (k n : ℕ) (ts : List ℕ) (m' : Machine) → k ≤ m .height → m' .height ≡ m .height - k
-      → m' .calls ≡ m .calls → m' .depth ≡ m .depth → G (m' .ip) → Does G I (listed (negℤ (pos k)) n ts keeps) m (next m')
+      → m' .calls ≡ m .calls → callHeight m' ≡ callHeight m → G (m' .ip) → Does G I (listed (negℤ (pos k)) n ts keeps) m (succeeds m')
   less k n ts m' l h c e g = on _ n ts m' (ap pos h ∙ less-by (m .height) k l) (λ b. rw h (omega arith)) c e g
 
   module _ (g : G (m .ip + 1)) where
-    nop-does : Does G I (effects NOP) m (next (onward m))
+    nop-does : Does G I (effects NOP) m (succeeds (onward m))
     unfolding effects moved
     nop-does = on _ 0 [] _ (level (m .height)) (λ l. l) refl refl g
 
     push-does : (v : ℕ) → Does G I (effects PUSH) m (push v m)
     unfolding effects push lostAt moved withStack
     push-does v =
-        must-case (Does G I (effects PUSH) m) _ _ _ _ (untouched _ 0 [] 21 refl)
+        must-case (Does G I (effects PUSH) m) _ _ _ _ (untouched _ 0 [] 21 refl refl refl)
         (λ b. on _ 0 [] _ refl (λ l. omega (arith, ltb-true (m .height) stackLimit b)) refl refl g)
 
     pop-does : Does G I (effects POP) m (pop m)
     unfolding effects pop lostAt moved withStack
     pop-does =
-        must-case (Does G I (effects POP) m) _ _ _ _ (untouched _ 0 [] 20 refl)
+        must-case (Does G I (effects POP) m) _ _ _ _ (untouched _ 0 [] 20 refl refl refl)
         (λ b. less 1 0 [] _ (ltb-true 0 (m .height) b) refl refl refl g)
 
     adjust-does : (f : ℕ → ℕ) → Does G I (effects INC) m (adjust f m)
     unfolding effects adjust lostAt moved withStack
     adjust-does f =
-        must-case (Does G I (effects INC) m) _ _ _ _ (untouched _ 0 [] 20 refl)
+        must-case (Does G I (effects INC) m) _ _ _ _ (untouched _ 0 [] 20 refl refl refl)
         (λ b. on _ 0 [] _ (level (m .height)) (λ l. l) refl refl g)
 
     integer-does : (k : Integer) → Does G I (effects (integer k)) m (integerStep k m)
@@ -128,108 +163,122 @@ module _ (G : ℕ → Type 0) (I : Type 0) (m : Machine) where
     integer-does k =
         let P = Does G I (effects (integer k)) m in
         let ts : List ℕ = 24 ∷ 30 ∷ 31 ∷ [] in
-        must-case P _ _ _ _ (untouched _ 1 ts 20 refl) λ b.
+        must-case P _ _ _ _ (untouched _ 1 ts 20 refl refl refl) λ b.
         let l : 1 ≤ m .height = omega (arith, leb-true 2 (m .height) b) in
-        must-case P _ _ _ _ (loses _ 1 ts 31 refl l) λ _.
-        must-case P _ _ _ _ (loses _ 1 ts 30 refl l) λ _.
-        must-case P _ _ _ _ (loses _ 1 ts 24 refl l) λ _.
+        must-case P _ _ _ _ (loses _ 1 ts 31 refl refl refl l) λ _.
+        must-case P _ _ _ _ (loses _ 1 ts 30 refl refl refl l) λ _.
+        must-case P _ _ _ _ (loses _ 1 ts 24 refl refl refl l) λ _.
         less 1 1 ts _ l refl refl refl g
 
     float-does : (k : Float) → Does G I (effects (float k)) m (floatStep k m)
     unfolding effects floatStep lostAt moved withStack
     float-does k =
-        must-case (Does G I (effects (float k)) m) _ _ _ _ (untouched _ 1 (24 ∷ 30 ∷ 31 ∷ []) 20 refl)
+        must-case (Does G I (effects (float k)) m) _ _ _ _ (untouched _ 1 (24 ∷ 30 ∷ 31 ∷ []) 20 refl refl refl)
         (λ b. less 1 1 _ _ (omega (arith, leb-true 2 (m .height) b)) refl refl refl g)
 
     compare-does : Does G I (effects CMP) m (compare m)
     unfolding effects compare lostAt moved withStack withFlags
     compare-does =
-        must-case (Does G I (effects CMP) m) _ _ _ _ (untouched _ 0 [] 20 refl)
+        must-case (Does G I (effects CMP) m) _ _ _ _ (untouched _ 0 [] 20 refl refl refl)
         (λ b. less 1 0 [] _ (omega (arith, leb-true 2 (m .height) b)) refl refl refl g)
 
     swap-does : (d : ℕ) → Does G I (effects SWAP) m (swap d m)
     unfolding effects swap lostAt moved withStack
     swap-does d =
-        must-case (Does G I (effects SWAP) m) _ _ _ _ (untouched _ 0 [] 20 refl)
+        must-case (Does G I (effects SWAP) m) _ _ _ _ (untouched _ 0 [] 20 refl refl refl)
         (λ b. on _ 0 [] _ (level (m .height)) (λ l. l) refl refl g)
 
     dup-does : (d : ℕ) → Does G I (effects DUP) m (dup d m)
     unfolding effects dup lostAt
-    dup-does d = must-case (Does G I (effects DUP) m) _ _ _ _ (untouched _ 0 [] 20 refl) (λ _. push-does _)
+    dup-does d = must-case (Does G I (effects DUP) m) _ _ _ _ (untouched _ 0 [] 20 refl refl refl) (λ _. push-does _)
 
     bot-does : Does G I (effects BOT) m (bot m)
     unfolding effects bot lostAt
-    bot-does = must-case (Does G I (effects BOT) m) _ _ _ _ (untouched _ 0 [] 20 refl) (λ _. push-does _)
+    bot-does = must-case (Does G I (effects BOT) m) _ _ _ _ (untouched _ 0 [] 20 refl refl refl) (λ _. push-does _)
 
     jumpIf-does : (b : Bool) (f : Found) → Leads f → Does G I (effects JCC) m (jumpIf b f m)
     unfolding effects jumpIf lostAt moved Leads Does
-    jumpIf-does b illChain i = (refl, i)
-    jumpIf-does b noLabel i = untouched (pos 0) 0 [] 26 refl
-    jumpIf-does true (target t) i = on _ 0 [] _ (level (m .height)) (λ l. l) refl refl i
-    jumpIf-does false (target t) i = on _ 0 [] _ (level (m .height)) (λ l. l) refl refl g
+    jumpIf-does b illChain i = i
+    jumpIf-does b noLabel i = untouched (pos 0) 0 [] 26 refl refl refl
+    jumpIf-does true (leadsTo t) i = on _ 0 [] _ (level (m .height)) (λ l. l) refl refl i
+    jumpIf-does false (leadsTo t) i = on _ 0 [] _ (level (m .height)) (λ l. l) refl refl g
 
-    callTo-does : (f : Found) → Leads f → m .depth < callLimit → Does G I (effects CALL) m (callTo f m)
-    unfolding effects callTo lostAt Does Room addressed withCalls moved CallsAre Leads
-    callTo-does illChain i l = (refl, i)
-    callTo-does noLabel i l = (omega arith, sym (popped-none (stacked (m .ip + 1) m)), λ _. (l, g))
-    callTo-does (target t) i l = record { gained = level (m .height); limited = λ h. h; called = (l, refl, refl, g, i) }
+    callTo-does : (f : Found) → Leads f → callHeight m < callLimit → Does G I (effects CALL) m (callTo f m)
+    unfolding effects callTo lostAt Does CallsLeft Room withCalls moved CallsAre Leads
+    callTo-does illChain i l = i
+    callTo-does noLabel i l = (
+      record {
+        number-from = lit≤ tt;
+        number-to = lit≤ tt;
+        enough = omega arith;
+        height-is = omega arith;
+        stack-is = refl;
+        calls-are = (refl, refl);
+        memory-is = refl;
+        flags-are = refl;
+        pointer-is = refl;
+        halted-is = refl;
+      },
+      λ _. (l, g),
+    )
+    callTo-does (leadsTo t) i l = record { gained = level (m .height); limited = λ h. h; called = (l, refl, refl, g, i) }
 
     call-does : (f : Found) → Leads f → Does G I (effects CALL) m (call f m)
-    unfolding effects call lostAt Does Room addressed
+    unfolding effects call lostAt Does Room
     call-does f i =
-        must-case (Does G I (effects CALL) m) _ _ _ _ (omega arith, sym (popped-none m), never)
-        (λ b. callTo-does f i (ltb-true (m .depth) callLimit b))
+        must-case (Does G I (effects CALL) m) _ _ _ _ (as-it-was (effects CALL) 23 refl refl refl, never)
+        (λ b. callTo-does f i (ltb-true (callHeight m) callLimit b))
 
     dump-does : (stream : ℕ) → Does G I (effects DMP) m (dump stream m)
-    unfolding effects dump lostAt moved Does
+    unfolding effects dump lostAt moved Does CallsAre
     dump-does stream =
         let P = Does G I (effects DMP) m in
-        must-case P _ _ _ _ (untouched (pos 0) 0 [] 20 refl) λ _.
-        must-case P _ _ _ _ (untouched (pos 0) 0 [] 32 refl) λ _.
-        (refl, on _ 0 [] (onward m) (level (m .height)) (λ l. l) refl refl g)
+        must-case P _ _ _ _ (untouched (pos 0) 0 [] 20 refl refl refl) λ _.
+        must-case P _ _ _ _ (untouched (pos 0) 0 [] 32 refl refl refl) λ _.
+        record { gained = level (m .height); limited = λ l. l; called = (refl, refl, g) }
 
     convert-does : (k : Conversion) → Does G I (effects (conversion k)) m (convert k m)
     unfolding effects convert lostAt moved withStack
     convert-does k =
         let P = Does G I (effects (conversion k)) m in
         let ts : List ℕ = 28 ∷ 29 ∷ 31 ∷ [] in
-        must-case P _ _ _ _ (untouched _ 1 ts 20 refl) λ b.
+        must-case P _ _ _ _ (untouched _ 1 ts 20 refl refl refl) λ b.
         let l : 1 ≤ m .height = ltb-true 0 (m .height) b in
-        must-case P _ _ _ _ (loses _ 1 ts 31 refl l) λ _.
-        must-case P _ _ _ _ (loses _ 1 ts 28 refl l) λ _.
-        must-case P _ _ _ _ (loses _ 1 ts 29 refl l) λ _.
+        must-case P _ _ _ _ (loses _ 1 ts 31 refl refl refl l) λ _.
+        must-case P _ _ _ _ (loses _ 1 ts 28 refl refl refl l) λ _.
+        must-case P _ _ _ _ (loses _ 1 ts 29 refl refl refl l) λ _.
         on _ 1 ts _ (level (m .height)) (λ h. h) refl refl g
 
     read-does : Does G I (effects READ) m (read m)
-    unfolding effects read lostAt moved withStack
+    unfolding effects read lostAt moved withStack withMemory
     read-does =
         let P = Does G I (effects READ) m in
-        must-case P _ _ _ _ (untouched _ 1 (25 ∷ []) 20 refl) λ b.
-        must-case P _ _ _ _ (loses _ 1 (25 ∷ []) 25 refl (ltb-true 0 (m .height) b)) λ _.
+        must-case P _ _ _ _ (untouched _ 1 (25 ∷ []) 20 refl refl refl) λ b.
+        must-case P _ _ _ _ (loses _ 1 (25 ∷ []) 25 refl refl refl (ltb-true 0 (m .height) b)) λ _.
         on _ 1 _ _ (level (m .height)) (λ h. h) refl refl g
 
     write-does : Does G I (effects WRITE) m (write m)
     unfolding effects write lostAt moved withStack withMemory
     write-does =
         let P = Does G I (effects WRITE) m in
-        must-case P _ _ _ _ (untouched _ 2 (25 ∷ []) 20 refl) λ b.
+        must-case P _ _ _ _ (untouched _ 2 (25 ∷ []) 20 refl refl refl) λ b.
         let l : 2 ≤ m .height = leb-true 2 (m .height) b in
-        must-case P _ _ _ _ (loses _ 2 (25 ∷ []) 25 refl l) λ _.
+        must-case P _ _ _ _ (loses _ 2 (25 ∷ []) 25 refl refl refl l) λ _.
         less 2 2 _ _ l refl refl refl g
 
   jump-does : (f : Found) → Leads f → Does G I (effects JMP) m (jump f m)
   unfolding effects jump lostAt moved Leads Does
-  jump-does illChain i = (refl, i)
-  jump-does noLabel i = untouched (pos 0) 0 [] 26 refl
-  jump-does (target t) i = on _ 0 [] _ (level (m .height)) (λ l. l) refl refl i
+  jump-does illChain i = i
+  jump-does noLabel i = untouched (pos 0) 0 [] 26 refl refl refl
+  jump-does (leadsTo t) i = on _ 0 [] _ (level (m .height)) (λ l. l) refl refl i
 
   ret-does : Does G I (effects RET) m (ret m)
-  unfolding effects ret lostAt moved withCalls Does Room addressed CallsAre
+  unfolding effects ret lostAt moved withCalls Does Room CallsAre
   ret-does =
-      must-case (Does G I (effects RET) m) _ _ _ _ (omega arith, sym (popped-none m), tt)
-      (λ b. record { gained = level (m .height); limited = λ h. h; called = (ltb-true 0 (m .depth) b, refl, refl, refl) })
+      must-case (Does G I (effects RET) m) _ _ _ _ (as-it-was (effects RET) _ refl refl refl, refl)
+      (λ b. record { gained = level (m .height); limited = λ h. h; called = (ltb-true 0 (callHeight m) b, refl, refl, refl) })
 
-  halt-does : G (m .ip) → Does G I (effects HALT) m (next (stopped m))
+  halt-does : G (m .ip) → Does G I (effects HALT) m (succeeds (stopped m))
   unfolding effects stopped
   halt-does g = on _ 0 [] _ (level (m .height)) (λ l. l) refl refl g
 
@@ -260,9 +309,9 @@ module _ (G : ℕ → Type 0) (I : Type 0) (m : Machine) where
       → Leads (lookup p (instAt p m)) → Does G I (effectsAt p m) m (step p m)
   unfolding step Does
   step-does p w h g f =
-      by-test (Does G I (effectsAt p m) m) (wellState p m) (exec (lookup p (instAt p m)) (instAt p m) m (opOf (instAt p m .typ))) (ill m)
+      by-test (Does G I (effectsAt p m) m) (wellState p m) (exec (lookup p (instAt p m)) (instAt p m) m (opOf (instAt p m .typ))) ill
       (λ _. exec-does (lookup p (instAt p m)) (instAt p m) (opOf (instAt p m .typ)) h g f)
-      (λ b. (refl, w b))
+      w
 
 -- for every program and machine
 
@@ -273,17 +322,20 @@ leads-anywhere : (m : Machine) (f : Found) → Leads Anywhere (Unit {0}) m f
 unfolding Leads
 leads-anywhere m illChain = tt
 leads-anywhere m noLabel = tt
-leads-anywhere m (target i) = tt
+leads-anywhere m (leadsTo i) = tt
+
+anywhere : (p : Program) (m : Machine) → Does Anywhere (Unit {0}) (effectsAt p m) m (step p m)
+anywhere p m = step-does Anywhere (Unit {0}) m p (λ _. tt) tt (λ _. tt) (leads-anywhere m _)
 
 pub traps-leave : TrapsLeave
-unfolding Does withStack
-traps-leave p m t m' e =
-    let d = rw e at (step-does Anywhere (Unit {0}) m p (λ _. tt) tt (λ _. tt) (leads-anywhere m _)) in
-    let f = effectsAt p m in
-    let a = addressed-is (f .on-calls) t m in
-    record {
-      enough = d .0;
-      machine-is = d .1;
-      pointer-is = ap (λ (x : Machine). x .ip) (d .1) ∙ a .ip-is;
-      height-is = ap (λ (x : Machine). x .height) (d .1) ∙ ap (λ (n : ℕ). n - lost f t) (a .height-is);
-    }
+unfolding Does
+traps-leave p m t m' e = (rw e at (anywhere p m)) .0
+
+-- the height of an untrapped step
+pub success-gains : (p : Program) (m m' : Machine) → step p m ≡ succeeds m' → pos (m' .height) ≡ pos (m .height) +ℤ effectsAt p m .gain
+unfolding Does
+success-gains p m m' e = (rw e at (anywhere p m)) .gained
+
+pub dump-gains : (p : Program) (m : Machine) (c : ℕ) (m' : Machine) → step p m ≡ outputs c m' → pos (m' .height) ≡ pos (m .height) +ℤ effectsAt p m .gain
+unfolding Does
+dump-gains p m c m' e = (rw e at (anywhere p m)) .gained

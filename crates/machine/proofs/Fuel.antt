@@ -46,9 +46,9 @@ module _ (image : List ℕ) where
       (λ _. then-none (scan n image) n (scan-ends n) _ (one-less n s _ h (told image (s .at))))
       (λ b. omega (arith, ltb-false (s .at) (length image) b))
 
-  pub read-to-end : (s : Scan) → scan (length image) image begin ≡ goes s → length image ≤ s .at
+  pub reads-to-end : (s : Scan) → scan (length image) image begin ≡ goes s → length image ≤ s .at
   unfolding Left
-  read-to-end s e = omega (arith, subst (Left image 0) e (scan-ends (length image) begin (omega arith)))
+  reads-to-end s e = omega (arith, subst (Left image 0) e (scan-ends (length image) begin (omega arith)))
 
 module _ (p : Program) (name : List ℕ) where
   -- one record on, as each index is below the bound
@@ -67,9 +67,9 @@ module _ (p : Program) (name : List ℕ) where
       positive zero n = absurd (n refl)
       positive (suc i) n = omega arith
 
-  pub walk-fuel : (fuel bound i : ℕ) → 0 < bound → bound ≤ fuel → walk (suc fuel) p name bound i ≡ walk fuel p name bound i
+  pub walks-to-end : (fuel bound i : ℕ) → 0 < bound → bound ≤ fuel → walk (suc fuel) p name bound i ≡ walk fuel p name bound i
   unfolding walk
-  walk-fuel zero bound i b f = absurd (omega arith)
-  walk-fuel (suc fuel) bound i b f =
-      below fuel bound i (eqb i 0) _ (λ n. walk n p name i (labelAt p i .next)) refl refl f (walk-fuel fuel i (labelAt p i .next))
+  walks-to-end zero bound i b f = absurd (omega arith)
+  walks-to-end (suc fuel) bound i b f =
+      below fuel bound i (eqb i 0) _ (λ n. walk n p name i (labelAt p i .next)) refl refl f (walks-to-end fuel i (labelAt p i .next))
       (same name (nameOf (p .image) (labelAt p i))) (inProgram p (labelAt p i .target))

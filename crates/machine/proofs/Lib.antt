@@ -1,9 +1,11 @@
 pub mod Cases
 mod Lists
 pub mod Does
-pub mod Sound
+mod Touch
+mod Sound
 pub mod Valid
 pub mod Tables
-pub mod Runs
 pub mod Marks
 pub mod Fuel
+pub mod Histories
+pub mod Runs

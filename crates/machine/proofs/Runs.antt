@@ -3,30 +3,33 @@ use Prim.Native.Nat.{ℕ, zero, suc, _+_, _-_, _≤_, _<_}
 use mathlib.Core.Path.{_≡_, refl, ap, _∙_, sym, subst}
 use mathlib.Core.Bool.{Bool, true, false, cond, _||_}
 use mathlib.Core.List.{List, [], _∷_, _++_, append-assoc, append-nil}
-use native.Mathlib.Nat.{add-zero, add-suc, suc-add, add-assoc, zero-add}
+use native.Mathlib.Nat.{add-zero, suc-add, add-assoc, zero-add}
 use native.Mathlib.Numerals.{add-one}
 use native.Mathlib.Omega.{arith}
 use lib.Dec.{eqb, ltb}
-use lib.ListN.{length, getD, take, drop, length-append, length-replicate}
-use lib.Seq.{take-append-seam}
+use lib.ListN.{length, getD, take, drop, length-replicate}
+use lib.Seq.{sets, sets-eq}
+use borrow.Author.Tests.{ltb-false}
 use Rattle.inst.specs.declared.Inst.{Inst}
 use Rattle.machine.specs.declared.Machine.{Machine}
 use Rattle.machine.specs.declared.Label.{Label}
 use Rattle.machine.specs.declared.Ending.{Ending}
-use Rattle.machine.specs.declared.Ending.the-variants.{Halted, Limit, Full, Ill, Trapped}
+use Rattle.machine.specs.declared.Ending.the-variants.{Limit, Number}
 use Rattle.machine.specs.Limits.{stackLimit, callLimit, instLimit, labelRecords}
 use Rattle.machine.specs.Load.{isHalt, halt, Loaded, accepts, rejects, loads, load, instsAfter, labelsAfter, fresh, countOf}
-use Rattle.machine.specs.Lookup.{Program, Found, illChain, noLabel, target}
-use Rattle.machine.specs.Step.{Stepped, next, dumps, trap, ill, opOf, instAt, step}
-use Rattle.machine.specs.Run.{Course, ended, after, follow, course, Result, reported, run, Request, runs, lastMachine, totalSteps, allDumped}
-use Rattle.machine.specs.Effects.{Effects, untrapped, trapped}
-use Rattle.machine.specs.History.{State, start, History, none, end, advance, stepped, programOf, effectsAt, further, history}
-use Rattle.machine.specs.Statements.{AllBelow, Agrees, AllKept, lent, RunsAreOneHistory}
-use Rattle.inst.proofs.Laws.{by-test, never}
-use Rattle.machine.proofs.Does.{Does, Leads, halts, step-does}
-use Rattle.machine.proofs.Sound.{Sound, agrees, In, stepped-sound}
+use Rattle.machine.specs.Lookup.{Program, Found, illChain, noLabel, leadsTo}
+use Rattle.machine.specs.Change.{callHeight}
+use Rattle.machine.specs.Step.{Stepped, succeeds, outputs, trap, ill, opOf, instAt, step}
+use Rattle.machine.specs.Run.{Course, course, Result, reported, run}
+use Rattle.machine.specs.Effects.{Effects, effects}
+use Rattle.machine.specs.History.{State, initial, History, none, end, stepped, programOf, effectsAt, further, history}
+use Rattle.machine.specs.Statements.{Request, runs, lastMachine, totalSteps, allDumped, Why, is-ill, is-full, is-trap, Because, AllBelow, Counted, Below, AllKept, RunsFrom, lent, RunsAreOneHistory}
+use Rattle.inst.proofs.Laws.{by-test, never, or-left, or-right}
+use Rattle.machine.proofs.Does.{Does, Leads, halts, step-does, traps-leave}
+use Rattle.machine.proofs.Sound.{Sound, counted, below, In, stepped-sound}
 use Rattle.machine.proofs.Valid.{Valid, valid}
 use Rattle.machine.proofs.Tables.{padded, Inside, name-inside, lookup-is, inst-is, well-state, step-is}
+use Rattle.machine.proofs.Histories.{Joined, joins, front}
 
 end-same : (s u : State) → end s ≡ end u → s ≡ u
 end-same s u e = cc
@@ -44,15 +47,7 @@ inside-leads : (n : ℕ) (m : Machine) (f : Found) → Inside n f → Leads (In 
 unfolding Inside Leads
 inside-leads n m illChain i = i
 inside-leads n m noLabel i = tt
-inside-leads n m (target t) i = i
-
--- an ending that a run from a point of the history may have at once, with this limit
-unfoldable Ends : ℕ → Ending → Type 0
-Ends limit Halted = Unit {0}
-Ends limit Limit = 0 ≡ limit
-Ends limit Full = Unit {0}
-Ends limit Ill = ⊥
-Ends limit (Trapped t) = Unit {0}
+inside-leads n m (leadsTo t) i = i
 
 module _ (image : List ℕ) (l : Loaded) (v : Valid image l) where
   abbrev count : ℕ
@@ -65,8 +60,12 @@ module _ (image : List ℕ) (l : Loaded) (v : Valid image l) where
   P-is : padded image l [] [] ≡ P
   P-is = rw (append-nil (l .insts), append-nil (l .labels))
 
-  start-sound : Sound count (start l)
-  unfolding start fresh AllBelow
+  -- its first state
+  abbrev first : State
+  first = initial (fresh l)
+
+  start-sound : Sound count first
+  unfolding initial fresh AllBelow
   start-sound =
       record {
         height-is = refl;
@@ -76,7 +75,7 @@ module _ (image : List ℕ) (l : Loaded) (v : Valid image l) where
           addresses-below = tt;
           pointer-below = v .start-below;
           calls-size = length-replicate {A = ℕ} callLimit 0;
-          depth-fits = omega arith;
+          call-height-fits = omega arith;
         };
       }
 
@@ -87,40 +86,46 @@ module _ (image : List ℕ) (l : Loaded) (v : Valid image l) where
     height-fits : m .height ≤ stackLimit
     height-fits = h .height-fits
 
-    depth-fits : m .depth ≤ callLimit
-    depth-fits = h .called .depth-fits
+    call-height-fits : callHeight m ≤ callLimit
+    call-height-fits = h .called .call-height-fits
 
-    below : m .ip < count
-    below = h .called .pointer-below
+    pointer-below : m .ip < count
+    pointer-below = h .called .pointer-below
 
     module _ (is : List Inst) (ls : List Label) where
-      abbrev q : Program
-      q = padded image l is ls
+      abbrev lentTables : Program
+      lentTables = padded image l is ls
 
-      goes-on : halts (opOf (instAt q m .typ)) ≡ false → m .ip + 1 < count
+      goes-on : halts (opOf (instAt lentTables m .typ)) ≡ false → m .ip + 1 < count
       goes-on e =
           let i = getD (l .insts) (m .ip) halt in
-          let b : halts (opOf (i .typ)) ≡ false = rw (inst-is image l v is ls m below) at e in
-          rw add-one (v .halts-last (m .ip) below (halting (i .typ) (isHalt i) refl b))
+          let b : halts (opOf (i .typ)) ≡ false = rw (inst-is image l v is ls m pointer-below) at e in
+          rw add-one (v .halts-last (m .ip) pointer-below (halting (i .typ) (isHalt i) refl b))
 
-      padded-does : Does (In count) ⊥ (effectsAt q m) m (step q m)
+      padded-does : Does (In count) ⊥ (effectsAt lentTables m) m (step lentTables m)
       padded-does =
-          step-does (In count) ⊥ m q (λ w. never (sym w ∙ well-state image l v is ls m height-fits depth-fits below)) below goes-on
-          (rw (lookup-is image l v is ls) (inside-leads count m _ (name-inside image l v (instAt q m))))
+          step-does (In count) ⊥ m lentTables (λ w. never (sym w ∙ well-state image l v is ls m height-fits call-height-fits pointer-below)) pointer-below goes-on
+          (rw (lookup-is image l v is ls) (inside-leads count m _ (name-inside image l v (instAt lentTables m))))
 
     -- the step of the history
     does : Does (In count) ⊥ (effectsAt P m) m (step P m)
     does = subst (λ (p : Program). Does (In count) ⊥ (effectsAt p m) m (step p m)) P-is (padded-does [] [])
 
+    same-inst : (is : List Inst) (ls : List Label) → instAt (padded image l is ls) m ≡ instAt P m
+    same-inst is ls = inst-is image l v is ls m pointer-below
+
     -- the step over tables with anything behind the loaded records
     same-step : (is : List Inst) (ls : List Label) → step (padded image l is ls) m ≡ step P m
     same-step is ls =
-        step-is image l v is ls m height-fits depth-fits below ∙ sym (step-is image l v [] [] m height-fits depth-fits below)
+        step-is image l v is ls m height-fits call-height-fits pointer-below ∙ sym (step-is image l v [] [] m height-fits call-height-fits pointer-below)
         ∙ ap (λ (p : Program). step p m) P-is
 
-    further-is : s .machine .halted ≡ false → further P (end s) ≡ stepped s (effectsAt P m) (step P m)
+    -- so one step more of a history is the same over both
+    same-further : (is : List Inst) (ls : List Label) → further (padded image l is ls) (end s) ≡ further P (end s)
     unfolding further
-    further-is e = ap (λ (b : Bool). cond b none (stepped s (effectsAt P m) (step P m))) e
+    same-further is ls =
+        let e : effectsAt (padded image l is ls) m ≡ effectsAt P m = ap (λ (i : Inst). effects (opOf (i .typ))) (same-inst is ls) in
+        rw (same-step is ls, e)
 
     further-sound : (u : State) → further P (end s) ≡ end u → Sound count u
     unfolding further
@@ -137,10 +142,10 @@ module _ (image : List ℕ) (l : Loaded) (v : Valid image l) where
   from-sound none u f e = absurd (none-end u e)
   from-sound (end s) u f e = further-sound s (f s refl) u e
 
-  history-sound : (n : ℕ) (s : State) → history image l n ≡ end s → Sound count s
+  history-sound : (n : ℕ) (s : State) → history P first n ≡ end s → Sound count s
   unfolding history
-  history-sound zero s e = subst (Sound count) (end-same (start l) s e) start-sound
-  history-sound (suc n) s e = from-sound (history image l n) s (history-sound n) e
+  history-sound zero s e = subst (Sound count) (end-same first s e) start-sound
+  history-sound (suc n) s e = from-sound (history P first n) s (history-sound n) e
 
   -- a history has each of its beginnings
   from : (k : History) (u : State) → further P k ≡ end u → (s : State) × (k ≡ end s)
@@ -148,143 +153,115 @@ module _ (image : List ℕ) (l : Loaded) (v : Valid image l) where
   from none u e = absurd (none-end u e)
   from (end s) u e = (s, refl)
 
-  begins : (k d : ℕ) (u : State) → history image l (d + k) ≡ end u → (s : State) × (history image l k ≡ end s)
+  begins : (k d : ℕ) (u : State) → history P first (d + k) ≡ end u → (s : State) × (history P first k ≡ end s)
   unfolding history
   begins k zero u e = (u, rw zero-add at e)
-  begins k (suc d) u e = let b = from (history image l (d + k)) u (rw suc-add at e) in begins k d (b .0) (b .1)
+  begins k (suc d) u e = let b = from (history P first (d + k)) u (rw suc-add at e) in begins k d (b .0) (b .1)
 
-  everywhere : (n : ℕ) (u : State) → history image l n ≡ end u → (k : ℕ) → k ≤ n → (s : State) × (history image l k ≡ end s) × Agrees count s
+  everywhere : (n : ℕ) (u : State) → history P first n ≡ end u → (k : ℕ) → k ≤ n
+      → (s : State) × (history P first k ≡ end s) × Counted s × Below count (s .machine)
   everywhere n u e k h =
       let z : n ≡ (n - k) + k = omega arith in
       let b = begins k (n - k) u (rw z at e) in
-      (b .0, b .1, agrees count (b .0) (history-sound k (b .0) (b .1)))
-
-  -- the history that a run from the state s, after n steps, goes on to; and what the run reports
-  record Joined (n : ℕ) (s : State) (limit room : ℕ) (r : Course) : Type 0 where
-    last : State
-    history-is : history image l (n + r .steps) ≡ end last
-    machine-is : last .machine ≡ r .machine
-    dumps-are : last .dumps ≡ s .dumps ++ r .cells
-    never-ill : r .ending ≡ Ill → ⊥
-    within : r .steps ≤ limit
-    exact : r .ending ≡ Limit → r .steps ≡ limit
-    fits : length (r .cells) ≤ room
-
-  joined-ended : (n : ℕ) (s : State) (limit room : ℕ) (e : Ending) → history image l n ≡ end s → Ends limit e → Joined n s limit room (ended e (s .machine))
-  unfolding Ends
-  joined-ended n s limit room e q w =
-      record {
-        last = s;
-        history-is = rw add-zero q;
-        machine-is = refl;
-        dumps-are = sym (append-nil (s .dumps));
-        never-ill = λ z. subst (Ends limit) z w;
-        within = omega arith;
-        exact = λ z. subst (Ends limit) z w;
-        fits = omega arith;
-      }
-
-  joined-after : (n : ℕ) (s u : State) (cells : List ℕ) (limit room whole : ℕ) (r : Course) → u .dumps ≡ s .dumps ++ cells
-      → length cells + room ≤ whole → Joined (suc n) u limit room r → Joined n s (suc limit) whole (after cells r)
-  joined-after n s u cells limit room whole r d f j =
-      record {
-        last = j .last;
-        history-is = rw (add-suc, ← suc-add) (j .history-is);
-        machine-is = j .machine-is;
-        dumps-are = j .dumps-are ∙ ap (λ (x : List ℕ). x ++ r .cells) d ∙ append-assoc (s .dumps) cells (r .cells);
-        never-ill = j .never-ill;
-        within = omega (arith, j .within);
-        exact = λ e. ap suc (j .exact e);
-        fits = rw length-append (omega (arith, j .fits));
-      }
+      let s = history-sound k (b .0) (b .1) in
+      (b .0, b .1, counted count (b .0) s, below count (b .0) s)
 
   module _ (is : List Inst) (ls : List Label) where
-    abbrev lentTables : Program
-    lentTables = padded image l is ls
+    abbrev Q : Program
+    Q = padded image l is ls
 
-    -- a run with this limit joins the history wherever it starts
-    abbrev Joins : ℕ → Type 0
-    Joins limit = (room n : ℕ) (s : State) → history image l n ≡ end s → Joined n s limit room (course lentTables limit room (s .machine))
+    -- the history over the lent tables is that over the loader's lists
+    same-from : (k : History) → ((s : State) → k ≡ end s → Sound count s) → further Q k ≡ further P k
+    unfolding further
+    same-from none f = refl
+    same-from (end s) f = same-further s (f s refl) is ls
 
-    follows : (limit room n : ℕ) (s : State) (e : Effects) → Joins limit → history image l n ≡ end s → (r : Stepped)
-        → Does (In count) ⊥ e (s .machine) r → history image l (suc n) ≡ stepped s e r
-        → Joined n s (suc limit) room (follow (course lentTables limit) room r)
-    unfolding follow Does stepped advance Ends
-    follows limit room n s e ih q (next m') d f =
-        joined-after n s _ [] limit room room _ refl (omega arith) (ih room (suc n) (advance s e untrapped m' []) f)
-    follows limit zero n s e ih q (dumps c m₀ m') d f =
-        subst (λ (x : Machine). Joined n s (suc limit) 0 (ended Full x)) (sym (d .0)) (joined-ended n s (suc limit) 0 Full q tt)
-    follows limit (suc room) n s e ih q (dumps c m₀ m') d f =
-        joined-after n s _ (c ∷ []) limit room (suc room) _ refl (omega arith) (ih room (suc n) (advance s e untrapped m' (c ∷ [])) f)
-    follows limit room n s e ih q (trap t m') d f =
-        joined-after n s _ [] limit room room _ refl (omega arith) (joined-ended (suc n) (advance s e (trapped t) m' []) limit room (Trapped t) f tt)
-    follows limit room n s e ih q (ill m₀) d f = absurd (d .1)
+    same-history : (n : ℕ) → history Q first n ≡ history P first n
+    unfolding history
+    same-history zero = refl
+    same-history (suc n) = ap (further Q) (same-history n) ∙ same-from (history P first n) (history-sound n)
 
-    joins-step : (limit : ℕ) → Joins limit → Joins (suc limit)
-    unfolding course Ends history
-    joins-step limit ih room n s q =
-        let h = history-sound n s q in
-        by-test (Joined n s (suc limit) room) (s .machine .halted) (ended Halted (s .machine)) (follow (course lentTables limit) room (step lentTables (s .machine)))
-        (λ _. joined-ended n s (suc limit) room Halted q tt)
-        (λ b. subst (λ (r : Stepped). Joined n s (suc limit) room (follow (course lentTables limit) room r)) (sym (same-step s h is ls))
-        (follows limit room n s (effectsAt P (s .machine)) ih q (step P (s .machine)) (does s h) (ap (further P) q ∙ further-is s h b)))
-
-    joins : (limit : ℕ) → Joins limit
-    unfolding course Ends
-    joins zero room n s q =
-        by-test (Joined n s 0 room) (s .machine .halted) (ended Halted (s .machine)) (ended Limit (s .machine))
-        (λ _. joined-ended n s 0 room Halted q tt) (λ _. joined-ended n s 0 room Limit q refl)
-    joins (suc limit) room n s q = joins-step limit (joins limit) room n s q
+    -- no run from a point of the history ends with 34
+    not-ill : (steps limit dumped room : ℕ) (last : State) → history Q first steps ≡ end last → Because Q first steps limit dumped room (last .machine) (Number 34) → ⊥
+    unfolding Because Does
+    not-ill steps limit dumped room last q (is-ill e i h k) =
+        rw i at (padded-does last (history-sound steps last (sym (same-history steps) ∙ q)) is ls)
+    not-ill steps limit dumped room last q (is-full e i f h k) = omega arith
+    not-ill steps limit dumped room last q (is-trap k u e h t) = omega (arith, traps-leave Q (u .machine) 34 (last .machine) t .number-to)
 
     -- the runs of a list, from the state s after n steps
     record Chained (n : ℕ) (s : State) (qs : List Request) (rs : List Result) : Type 0 where
       last : State
-      history-is : history image l (n + totalSteps rs) ≡ end last
+      history-is : history Q first (n + totalSteps rs) ≡ end last
       machine-is : last .machine ≡ lastMachine (s .machine) rs
       dumps-are : last .dumps ≡ s .dumps ++ allDumped rs
       all-kept : AllKept qs rs
 
-    -- the front of the buffer is the cells dumped
-    front : (r : Course) (buffer : List ℕ) → let a = reported buffer r in take (a .dumped) (a .buffer) ≡ r .cells
-    unfolding reported
-    front r buffer = take-append-seam (r .cells) (drop (length (r .cells)) buffer)
-
     chained-cons : (n : ℕ) (s : State) (q : Request) (qs : List Request) (r : Course) (rs : List Result)
-        (j : Joined n s (q .limit) (length (q .buffer)) r) → Chained (n + r .steps) (j .last) qs rs → Chained n s (q ∷ qs) (reported (q .buffer) r ∷ rs)
-    unfolding totalSteps lastMachine allDumped AllKept reported
+        (j : Joined Q first n s (q .limit) (length (q .buffer)) r) → Chained (n + r .steps) (j .last) qs rs → Chained n s (q ∷ qs) (reported (q .buffer) r ∷ rs)
+    unfolding totalSteps lastMachine allDumped AllKept reported Because
     chained-cons n s q qs r rs j t =
         record {
           last = t .last;
           history-is = rw (← add-assoc) (t .history-is);
           machine-is = t .machine-is ∙ ap (λ (x : Machine). lastMachine x rs) (j .machine-is);
           dumps-are = t .dumps-are ∙ ap (λ (x : List ℕ). x ++ allDumped rs) (j .dumps-are) ∙ append-assoc (s .dumps) (r .cells) (allDumped rs)
-              ∙ ap (λ (x : List ℕ). s .dumps ++ (x ++ allDumped rs)) (sym (front r (q .buffer)));
-          all-kept = (record { never-ill = j .never-ill; within = j .within; exact = j .exact; fits = j .fits }, t .all-kept);
+              ∙ ap (λ (x : List ℕ). s .dumps ++ (x ++ allDumped rs)) (sym (front (r .cells) (q .buffer) (j .fits)));
+          all-kept = (
+            record {
+              never-ill = λ e. not-ill _ _ _ _ (j .last) (j .history-is) (rw (← (j .machine-is)) at (rw e at (j .because)));
+              within = j .within;
+              exact = λ e. let b = (rw e at (j .because)) .1 in omega arith;
+              fits = j .fits;
+            },
+            t .all-kept,
+          );
         }
 
-    chained : (qs : List Request) (n : ℕ) (s : State) → history image l n ≡ end s → Chained n s qs (runs lentTables (s .machine) qs)
-    unfolding runs run totalSteps lastMachine allDumped AllKept reported
-    chained [] n s e = record { last = s; history-is = rw add-zero e; machine-is = refl; dumps-are = sym (append-nil (s .dumps)); all-kept = tt }
-    chained (q ∷ qs) n s e =
-        let r = course lentTables (q .limit) (length (q .buffer)) (s .machine) in
-        let j = joins (q .limit) (length (q .buffer)) n s e in
-        chained-cons n s q qs r (runs lentTables (r .machine) qs) j
-        (subst (λ (x : Machine). Chained (n + r .steps) (j .last) qs (runs lentTables x qs)) (j .machine-is) (chained qs (n + r .steps) (j .last) (j .history-is)))
+    chained : (qs : List Request) (rs : List Result) (n : ℕ) (s : State) → history Q first n ≡ end s → RunsFrom Q (s .machine) qs rs → Chained n s qs rs
+    unfolding RunsFrom run reported totalSteps lastMachine allDumped AllKept
+    chained [] [] n s e w = record { last = s; history-is = rw add-zero e; machine-is = refl; dumps-are = sym (append-nil (s .dumps)); all-kept = tt }
+    chained [] (r ∷ rs) n s e w = absurd w
+    chained (q ∷ qs) [] n s e w = absurd w
+    chained (q ∷ qs) (r ∷ rs) n s e w =
+        let c = course Q (q .limit) (length (q .buffer)) (s .machine) in
+        let j = joins Q first (q .limit) (length (q .buffer)) n s e in
+        let m : r .machine ≡ j .last .machine = ap (λ (x : Result). x .machine) (w .0) ∙ sym (j .machine-is) in
+        subst (λ (x : Result). Chained n s (q ∷ qs) (x ∷ rs)) (sym (w .0))
+        (chained-cons n s q qs c rs j (chained qs rs (n + c .steps) (j .last) (j .history-is) (subst (λ (x : Machine). RunsFrom Q x qs rs) m (w .1))))
 
-accepted : (image : List ℕ) (insts : List Inst) (labels : List Label) (l : Loaded) → load image insts labels ≡ accepts l → loads image ≡ accepts l
-unfolding load
-accepted image insts labels l = by (ltb (length insts) instLimit || ltb (length labels) labelRecords)
-  where
-    by : (b : Bool) → cond b (rejects 10) (loads image) ≡ accepts l → loads image ≡ accepts l
-    by true e = absurd (let z : _≡_ {A = ℕ} 0 1 = cc in omega arith)
-    by false e = e
+module _ (image : List ℕ) (insts : List Inst) (labels : List Label) (l : Loaded) (e : load image insts labels ≡ accepts l) where
+  by-room : (b : Bool) → cond b (rejects 10) (loads image) ≡ accepts l → (b ≡ false) × (loads image ≡ accepts l)
+  by-room true e = absurd (let z : _≡_ {A = ℕ} 0 1 = cc in omega arith)
+  by-room false e = (refl, e)
+
+  room : ((ltb (length insts) instLimit || ltb (length labels) labelRecords) ≡ false) × (loads image ≡ accepts l)
+  unfolding load
+  room = by-room (ltb (length insts) instLimit || ltb (length labels) labelRecords) e
+
+-- filled from the front, with the rest behind
+filled : {A : Type 0} (rs old : List A) → length rs ≤ length old → sets old 0 rs ≡ rs ++ drop (length rs) old
+filled rs old h = sets-eq rs old 0 (rw zero-add h) ∙ rw zero-add
+
+-- the runs of a list are an instance
+pub runs-from : (p : Program) (m : Machine) (qs : List Request) → RunsFrom p m qs (runs p m qs)
+unfolding RunsFrom runs
+runs-from p m [] = tt
+runs-from p m (q ∷ qs) = (refl, runs-from p _ qs)
 
 pub runs-are-one-history : RunsAreOneHistory
-unfolding lent instsAfter labelsAfter history start
-runs-are-one-history image insts labels l bytes e qs =
-    let v = valid image l bytes (accepted image insts labels l e) in
-    let t = chained image l v (drop (countOf l) insts) (drop (length (l .labels)) labels) qs 0 (start l) refl in
-    let h : history image l (totalSteps _) ≡ end (t .last) = rw zero-add at (t .history-is) in
+unfolding lent instsAfter labelsAfter history initial
+runs-are-one-history image insts labels l bytes e qs rs w =
+    let a = room image insts labels l e in
+    let v = valid image l bytes (a .1) in
+    let is = filled (l .insts) insts (omega (arith, v .count-fits, ltb-false (length insts) instLimit (or-left _ _ (a .0)))) in
+    let size : length (l .labels) ≤ labelRecords = rw (v .chain .labels-are) (v .chain .fit) in
+    let ls = filled (l .labels) labels (omega (arith, ltb-false (length labels) labelRecords (or-right (ltb (length insts) instLimit) _ (a .0)))) in
+    let is' = drop (countOf l) insts in
+    let ls' = drop (length (l .labels)) labels in
+    let t = chained image l v is' ls' qs rs 0 (initial (fresh l)) refl (rw (is, ls) at w) in
+    let h : history (programOf image l) (initial (fresh l)) (totalSteps rs) ≡ end (t .last) =
+    sym (same-history image l v is' ls' (totalSteps rs)) ∙ (rw zero-add at (t .history-is)) in
     record {
       last = t .last;
       history-is = h;

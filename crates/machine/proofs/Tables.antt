@@ -12,8 +12,9 @@ use Rattle.inst.specs.Records.{part}
 use Rattle.machine.specs.declared.Machine.{Machine}
 use Rattle.machine.specs.declared.Label.{Label}
 use Rattle.machine.specs.Limits.{stackLimit, callLimit}
-use Rattle.machine.specs.Load.{halt, same, nameOf, startName, head, Entry, none, entry, lastOf, Loaded, countOf}
-use Rattle.machine.specs.Lookup.{Program, Found, illChain, noLabel, target, labelAt, walk, lookupFrom, lookup}
+use Rattle.machine.specs.Load.{halt, same, nameOf, startName, head, Entry, noEntry, entry, lastOf, Loaded, countOf}
+use Rattle.machine.specs.Change.{callHeight}
+use Rattle.machine.specs.Lookup.{Program, Found, illChain, noLabel, leadsTo, labelAt, walk, lookupFrom, lookup}
 use Rattle.machine.specs.Step.{instAt, wellState, step, exec, opOf}
 use Rattle.inst.proofs.Laws.{by-test}
 use Rattle.machine.proofs.Valid.{Definition, Valid, well-at}
@@ -25,7 +26,7 @@ padded image l is ls = record { image = image; insts = l .insts ++ is; labels = 
 -- what a lookup finds among the first i definitions, the last first
 unfoldable pub find : List ℕ → List ℕ → List Label → ℕ → Found
 find image name d zero = noLabel
-find image name d (suc i) = let l = getD d i (head 0) in cond (same name (nameOf image l)) (target (l .target)) (find image name d i)
+find image name d (suc i) = let l = getD d i (head 0) in cond (same name (nameOf image l)) (leadsTo (l .target)) (find image name d i)
 
 module _ (image : List ℕ) (name : List ℕ) (p : Program) (d : List Label) (in-image : p .image ≡ image)
     (definitions : (i : ℕ) → i < length d → Definition image (p .count) i (getD d i (head 0)))
@@ -44,14 +45,14 @@ module _ (image : List ℕ) (name : List ℕ) (p : Program) (d : List Label) (in
 unfoldable pub Inside : ℕ → Found → Type 0
 Inside n illChain = ⊥
 Inside n noLabel = Unit {0}
-Inside n (target t) = t < n
+Inside n (leadsTo t) = t < n
 
 find-inside : (image name : List ℕ) (n : ℕ) (d : List Label) → ((i : ℕ) → i < length d → Definition image n i (getD d i (head 0)))
     → (i : ℕ) → i ≤ length d → Inside n (find image name d i)
 unfolding find Inside
 find-inside image name n d f zero h = tt
 find-inside image name n d f (suc i) h =
-    by-test (Inside n) (same name (nameOf image (getD d i (head 0)))) (target _) (find image name d i)
+    by-test (Inside n) (same name (nameOf image (getD d i (head 0)))) (leadsTo _) (find image name d i)
     (λ _. f i h .target-below) (λ _. find-inside image name n d f i (omega arith))
 
 -- the last definition of a name is the one that a lookup finds
@@ -59,7 +60,7 @@ find-inside image name n d f (suc i) h =
 entryOr : Entry → Found → Entry
 entryOr e illChain = e
 entryOr e noLabel = e
-entryOr e (target t) = entry t
+entryOr e (leadsTo t) = entry t
 
 module _ (image name : List ℕ) where
   -- a definition before the others counts where they don't have the name
@@ -68,12 +69,12 @@ module _ (image name : List ℕ) where
   unfolding find entryOr
   earlier l d zero e = by (same name (nameOf image l))
     where
-      by : (b : Bool) → entryOr e (cond b (target (l .target)) noLabel) ≡ cond b (entry (l .target)) e
+      by : (b : Bool) → entryOr e (cond b (leadsTo (l .target)) noLabel) ≡ cond b (entry (l .target)) e
       by true = refl
       by false = refl
   earlier l d (suc i) e = by _ _ _ _ (same name (nameOf image (getD d i (head 0)))) (earlier l d i e)
     where
-      by : (f g : Found) (e' : Entry) (t : ℕ) (b : Bool) → entryOr e f ≡ entryOr e' g → entryOr e (cond b (target t) f) ≡ entryOr e' (cond b (target t) g)
+      by : (f g : Found) (e' : Entry) (t : ℕ) (b : Bool) → entryOr e f ≡ entryOr e' g → entryOr e (cond b (leadsTo t) f) ≡ entryOr e' (cond b (leadsTo t) g)
       by f g e' t true h = refl
       by f g e' t false h = h
 
@@ -82,11 +83,11 @@ module _ (image name : List ℕ) where
   last-found [] e = refl
   last-found (l ∷ d) e = last-found d (cond (same name (nameOf image l)) (entry (l .target)) e) ∙ sym (earlier l d (length d) e)
 
-  found-target : (f : Found) (t : ℕ) → entryOr none f ≡ entry t → f ≡ target t
+  found-target : (f : Found) (t : ℕ) → entryOr noEntry f ≡ entry t → f ≡ leadsTo t
   unfolding entryOr
   found-target illChain t e = absurd (let z : _≡_ {A = ℕ} 0 1 = cc in omega arith)
   found-target noLabel t e = absurd (let z : _≡_ {A = ℕ} 0 1 = cc in omega arith)
-  found-target (target u) t e = cc
+  found-target (leadsTo u) t e = cc
 
 module _ (image : List ℕ) (l : Loaded) (v : Valid image l) where
   -- the lookup of an instruction's name among the loaded labels
@@ -112,23 +113,23 @@ module _ (image : List ℕ) (l : Loaded) (v : Valid image l) where
         ap (λ (x : List Label). lookupFrom p (part image (i .start) (i .len)) (x ++ ls)) (v .chain .labels-are) ∙ w
 
     -- a jump to `_start` leads to where the fresh machine starts
-    pub start-found : (i : Inst) → part image (i .start) (i .len) ≡ startName → lookup p i ≡ target (l .start)
+    pub start-found : (i : Inst) → part image (i .start) (i .len) ≡ startName → lookup p i ≡ leadsTo (l .ip)
     start-found i e =
         lookup-is i ∙ ap (λ (n : List ℕ). find image n (v .chain .defined) (length (v .chain .defined))) e
-        ∙ found-target image startName _ (l .start) (sym (last-found image startName (v .chain .defined) none) ∙ v .start-is)
+        ∙ found-target image startName _ (l .ip) (sym (last-found image startName (v .chain .defined) noEntry) ∙ v .start-is)
 
     pub inst-is : (m : Machine) → m .ip < countOf l → instAt p m ≡ getD (l .insts) (m .ip) halt
     inst-is m h = List·getD-append (l .insts) is halt (m .ip) h
 
     -- no 34 before a lookup
-    pub well-state : (m : Machine) → m .height ≤ stackLimit → m .depth ≤ callLimit → m .ip < countOf l → wellState p m ≡ true
+    pub well-state : (m : Machine) → m .height ≤ stackLimit → callHeight m ≤ callLimit → m .ip < countOf l → wellState p m ≡ true
     unfolding wellState
     well-state m h d i =
         let w = well-at image (l .insts) (m .ip) (v .well) i in
         let n : countOf l ≤ length (l .insts ++ is) = rw length-append (omega arith) in
         simp (inst-is m i, le-leb _ _ h, le-leb _ _ d, lt-ltb _ _ i, le-leb _ _ n, w)
 
-    pub step-is : (m : Machine) → m .height ≤ stackLimit → m .depth ≤ callLimit → m .ip < countOf l
+    pub step-is : (m : Machine) → m .height ≤ stackLimit → callHeight m ≤ callLimit → m .ip < countOf l
         → step p m ≡ exec (findName (getD (l .insts) (m .ip) halt)) (getD (l .insts) (m .ip) halt) m (opOf (getD (l .insts) (m .ip) halt .typ))
     unfolding step
     step-is m h d i = simp (well-state m h d i, inst-is m i, lookup-is)

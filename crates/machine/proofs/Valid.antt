@@ -17,7 +17,7 @@ use Rattle.inst_decode.specs.Decode.{Answer, refused, reads}
 use Rattle.inst_decode.proofs.Facts.{Told, told}
 use Rattle.machine.specs.declared.Label.{Label}
 use Rattle.machine.specs.Limits.{imageLimit, instLimit, labelRecords}
-use Rattle.machine.specs.Load.{isLabel, isHalt, halt, same, nameOf, startName, head, linked, Scan, Scanned, stops, goes, begin, added, scanOne, andThen, scan, Entry, none, entry, lastOf, anyNative, lastIsHalt, closed, Loaded, Load, rejects, accepts, checked, entered, finished, loads, countOf}
+use Rattle.machine.specs.Load.{isLabel, isHalt, halt, same, nameOf, startName, head, linked, Scan, Scanned, stops, goes, begin, added, scanOne, andThen, scan, Entry, noEntry, entry, lastOf, anyNative, lastIsHalt, closed, Loaded, Load, rejects, accepts, checked, entered, finished, loads, countOf}
 use Rattle.machine.specs.Encode.{allWellFormed}
 use Rattle.inst.proofs.Laws.{by-test, never, and-left, and-right}
 use Rattle.machine.proofs.Cases.{both}
@@ -37,10 +37,10 @@ pub record Chain (image : List ℕ) (n : ℕ) (labels : List Label) : Type 0 whe
 pub record Valid (image : List ℕ) (l : Loaded) : Type 0 where
   pub well : allWellFormed image (l .insts) ≡ true
   pub halts-last : (i : ℕ) → i < countOf l → isHalt (getD (l .insts) i halt) ≡ false → suc i < countOf l
-  pub start-below : l .start < countOf l
+  pub start-below : l .ip < countOf l
   pub count-fits : countOf l ≤ instLimit
   pub chain : Chain image (countOf l) (l .labels)
-  pub start-is : lastOf image startName none (chain .defined) ≡ entry (l .start)
+  pub start-is : lastOf image startName noEntry (chain .defined) ≡ entry (l .ip)
 
 -- records
 
@@ -184,7 +184,7 @@ module _ (image : List ℕ) (bytes : Bytes image) where
 -- after the last byte
 
 unfoldable GoodEntry : ℕ → Entry → Type 0
-GoodEntry n none = Unit {0}
+GoodEntry n noEntry = Unit {0}
 GoodEntry n (entry t) = t < n
 
 last-good : (image wanted : List ℕ) (n : ℕ) (e : Entry) (ls : List Label) → GoodEntry n e
@@ -201,10 +201,10 @@ GoodLoad image (rejects n) = Unit {0}
 GoodLoad image (accepts l) = Valid image l
 
 module _ (image : List ℕ) where
-  entered-good : (s : Scan) (e : Entry) (g : Good image s) → GoodEntry (length (s .insts)) e → lastOf image startName none (g .chain .defined) ≡ e
+  entered-good : (s : Scan) (e : Entry) (g : Good image s) → GoodEntry (length (s .insts)) e → lastOf image startName noEntry (g .chain .defined) ≡ e
       → GoodLoad image (entered s e)
   unfolding entered checked GoodLoad GoodEntry chain-more
-  entered-good s none g h q = tt
+  entered-good s noEntry g h q = tt
   entered-good s (entry t) g h q =
       let n = length (closed (s .insts)) in
       let l = longer (s .insts) in
@@ -224,8 +224,8 @@ module _ (image : List ℕ) where
   finished-good (stops n) g = tt
   finished-good (goes s) g =
       let c = g .chain in
-      subst (λ (ls : List Label). GoodLoad image (entered s (lastOf image startName none (drop 1 ls)))) (sym (c .labels-are))
-      (entered-good s _ g (last-good image startName (length (s .insts)) none (c .defined) tt (λ i h. c .definitions i h .target-below)) refl)
+      subst (λ (ls : List Label). GoodLoad image (entered s (lastOf image startName noEntry (drop 1 ls)))) (sym (c .labels-are))
+      (entered-good s _ g (last-good image startName (length (s .insts)) noEntry (c .defined) tt (λ i h. c .definitions i h .target-below)) refl)
 
   loads-good : Bytes image → GoodLoad image (loads image)
   unfolding loads GoodLoad

@@ -5,31 +5,35 @@ use mathlib.Core.List.{List}
 use lib.ListN.{getD, set}
 use Rattle.machine.specs.declared.Machine.{Machine}
 
+-- the call height; a field's name with a line in it is written in marks
+abbrev pub callHeight : Machine → ℕ
+callHeight m = m .«call_height»
+
 -- the data stack s with the height h, and all else as in m; and so on
 unfoldable pub withStack : List ℕ → ℕ → Machine → Machine
 withStack s h m =
-    record { stack = s; height = h; calls = m .calls; depth = m .depth; memory = m .memory; flags = m .flags; ip = m .ip; halted = m .halted }
+    record { stack = s; height = h; calls = m .calls; «call_height» = callHeight m; memory = m .memory; flags = m .flags; ip = m .ip; halted = m .halted }
 
 unfoldable pub withCalls : List ℕ → ℕ → Machine → Machine
-withCalls c d m =
-    record { stack = m .stack; height = m .height; calls = c; depth = d; memory = m .memory; flags = m .flags; ip = m .ip; halted = m .halted }
+withCalls c h m =
+    record { stack = m .stack; height = m .height; calls = c; «call_height» = h; memory = m .memory; flags = m .flags; ip = m .ip; halted = m .halted }
 
 unfoldable pub withMemory : List ℕ → Machine → Machine
 withMemory b m =
-    record { stack = m .stack; height = m .height; calls = m .calls; depth = m .depth; memory = b; flags = m .flags; ip = m .ip; halted = m .halted }
+    record { stack = m .stack; height = m .height; calls = m .calls; «call_height» = callHeight m; memory = b; flags = m .flags; ip = m .ip; halted = m .halted }
 
 unfoldable pub withFlags : ℕ → Machine → Machine
 withFlags f m =
-    record { stack = m .stack; height = m .height; calls = m .calls; depth = m .depth; memory = m .memory; flags = f; ip = m .ip; halted = m .halted }
+    record { stack = m .stack; height = m .height; calls = m .calls; «call_height» = callHeight m; memory = m .memory; flags = f; ip = m .ip; halted = m .halted }
 
 -- the pointer moved to i
 unfoldable pub moved : ℕ → Machine → Machine
 moved i m =
-    record { stack = m .stack; height = m .height; calls = m .calls; depth = m .depth; memory = m .memory; flags = m .flags; ip = i; halted = m .halted }
+    record { stack = m .stack; height = m .height; calls = m .calls; «call_height» = callHeight m; memory = m .memory; flags = m .flags; ip = i; halted = m .halted }
 
 unfoldable pub stopped : Machine → Machine
 stopped m =
-    record { stack = m .stack; height = m .height; calls = m .calls; depth = m .depth; memory = m .memory; flags = m .flags; ip = m .ip; halted = true }
+    record { stack = m .stack; height = m .height; calls = m .calls; «call_height» = callHeight m; memory = m .memory; flags = m .flags; ip = m .ip; halted = true }
 
 -- success adds 1 to the pointer
 abbrev pub onward : Machine → Machine
@@ -66,11 +70,11 @@ swapped d m =
 
 -- a return address stacked
 abbrev pub stacked : ℕ → Machine → Machine
-stacked a m = withCalls (set (m .calls) (m .depth) a) (m .depth + 1) m
+stacked a m = withCalls (set (m .calls) (callHeight m) a) (callHeight m + 1) m
 
 -- the pointer at the address that is popped
 abbrev pub returned : Machine → Machine
-returned m = moved (getD (m .calls) (m .depth - 1) 0) (withCalls (m .calls) (m .depth - 1) m)
+returned m = moved (getD (m .calls) (callHeight m - 1) 0) (withCalls (m .calls) (callHeight m - 1) m)
 
 -- a byte stored at an address
 abbrev pub written : ℕ → ℕ → Machine → Machine

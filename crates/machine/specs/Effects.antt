@@ -13,7 +13,7 @@ pub data Outcome : Type 0 where
 
 -- what an instruction does to the open calls: CALL +1, RET -1, else 0
 pub data Calls : Type 0 where
-  calls returns keeps : Calls
+  opens closes keeps : Calls
 
 -- the effect on height untrapped; so many cells less with one of these traps, and 0 with others; the effect on the calls
 pub record Effects : Type 0 where
@@ -39,8 +39,8 @@ effects DUP = listed (pos 1) 0 [] keeps
 effects BOT = listed (pos 1) 0 [] keeps
 effects JCC = listed (pos 0) 0 [] keeps
 effects JMP = listed (pos 0) 0 [] keeps
-effects CALL = listed (pos 0) 0 [] calls
-effects RET = listed (pos 0) 0 [] returns
+effects CALL = listed (pos 0) 0 [] opens
+effects RET = listed (pos 0) 0 [] closes
 effects DMP = listed (pos 0) 0 [] keeps
 effects READ = listed (pos 0) 1 (25 ∷ []) keeps
 effects WRITE = listed (negℤ (pos 2)) 2 (25 ∷ []) keeps
@@ -71,7 +71,7 @@ dropLast (x ∷ y ∷ l) = x ∷ dropLast (y ∷ l)
 -- RET, untrapped, removes the last
 unfoldable pub openCalls : Calls → Outcome → ℕ → List ℕ → List ℕ
 openCalls keeps o i l = l
-openCalls calls untrapped i l = l ++ (i ∷ [])
-openCalls calls (trapped t) i l = cond (eqb t 27) (l ++ (i ∷ [])) l
-openCalls returns untrapped i l = dropLast l
-openCalls returns (trapped t) i l = l
+openCalls opens untrapped i l = l ++ (i ∷ [])
+openCalls opens (trapped t) i l = cond (eqb t 27) (l ++ (i ∷ [])) l
+openCalls closes untrapped i l = dropLast l
+openCalls closes (trapped t) i l = l

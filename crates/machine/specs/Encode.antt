@@ -4,10 +4,10 @@ use mathlib.Core.Bool.{Bool, true, cond, _&&_}
 use mathlib.Core.List.{List, [], _∷_, _++_}
 use lib.Dec.{leb}
 use lib.ListN.{length, take}
+use lib.Seq.{sets}
 use Rattle.inst.specs.declared.Inst.{Inst}
 use Rattle.inst.specs.Records.{wellFormed}
 use Rattle.inst_encode.specs.Encode.{asBytes}
-use Rattle.machine.specs.Load.{over}
 
 unfoldable pub allWellFormed : List ℕ → List Inst → Bool
 allWellFormed image [] = true
@@ -34,4 +34,4 @@ encode image insts count out =
 -- the output after the call: the bytes, and the rest unchanged; with a number nothing is written
 unfoldable pub outputAfter : Encoded → List ℕ → List Inst → ℕ → List ℕ → List ℕ
 outputAfter (unencoded n) image insts count out = out
-outputAfter (encoded size) image insts count out = over (bytesOfAll image (take count insts)) out
+outputAfter (encoded size) image insts count out = sets out 0 (bytesOfAll image (take count insts))

@@ -1,12 +1,12 @@
--- The history of demand 3, as document 01 has it: fed the image, what the loader's definition gives for it, and a number of steps.
+-- The history of demand 3, as document 01 has it: fed a program, the state that it starts from, and a number of steps.
 use Prim.Native.Nat.{ℕ, zero, suc}
 use mathlib.Core.Bool.{cond}
 use mathlib.Core.List.{List, [], _∷_, _++_}
 use lib.IntN.{ℤ, pos, _+ℤ_}
 use Rattle.machine.specs.declared.Machine.{Machine}
-use Rattle.machine.specs.Load.{Loaded, fresh, countOf}
+use Rattle.machine.specs.Load.{Loaded, countOf}
 use Rattle.machine.specs.Lookup.{Program}
-use Rattle.machine.specs.Step.{Stepped, next, dumps, trap, ill, opOf, instAt, step}
+use Rattle.machine.specs.Step.{Stepped, succeeds, outputs, trap, ill, opOf, instAt, step}
 use Rattle.machine.specs.Effects.{Outcome, untrapped, trapped, Effects, effects, effect, openCalls}
 
 -- a machine, a height, a list of open calls (those not yet returned from) and a list of dumps
@@ -16,9 +16,9 @@ pub record State : Type 0 where
   pub open-calls : List ℕ
   pub dumps : List ℕ
 
--- at first the fresh machine, 0 and two empty lists
-unfoldable pub start : Loaded → State
-start l = record { machine = fresh l; height = pos 0; open-calls = []; dumps = [] }
+-- at first the machine, 0 and two empty lists
+unfoldable pub initial : Machine → State
+initial m = record { machine = m; height = pos 0; open-calls = []; dumps = [] }
 
 -- a history's end, or no history: an n that it can't reach has none
 pub data History : Type 0 where
@@ -38,12 +38,12 @@ advance s e o m cells =
 
 -- always with room for a dump; none where 34 holds
 unfoldable pub stepped : State → Effects → Stepped → History
-stepped s e (next m) = end (advance s e untrapped m [])
-stepped s e (dumps c m m') = end (advance s e untrapped m' (c ∷ []))
+stepped s e (succeeds m) = end (advance s e untrapped m [])
+stepped s e (outputs c m) = end (advance s e untrapped m (c ∷ []))
 stepped s e (trap t m) = end (advance s e (trapped t) m [])
-stepped s e (ill m) = none
+stepped s e ill = none
 
--- the program as loaded: the loader's lists and no more
+-- the program of an accepted image: the loader's lists and no more
 abbrev pub programOf : List ℕ → Loaded → Program
 programOf image l = record { image = image; insts = l .insts; labels = l .labels; count = countOf l }
 
@@ -56,6 +56,7 @@ unfoldable pub further : Program → History → History
 further p none = none
 further p (end s) = cond (s .machine .halted) none (stepped s (effectsAt p (s .machine)) (step p (s .machine)))
 
-unfoldable pub history : List ℕ → Loaded → ℕ → History
-history image l zero = end (start l)
-history image l (suc n) = further (programOf image l) (history image l n)
+-- n steps from the state s
+unfoldable pub history : Program → State → ℕ → History
+history p s zero = end s
+history p s (suc n) = further p (history p s n)

@@ -5,8 +5,10 @@ pub mod Change
 pub mod Step
 pub mod Run
 pub mod Effects
+pub mod Touches
 pub mod History
 pub mod Encode
+pub mod Steps
 pub mod Statements
 pub mod Marks
 pub mod Theorems

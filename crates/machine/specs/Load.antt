@@ -4,6 +4,7 @@ use mathlib.Core.Bool.{Bool, true, false, cond, _&&_, _||_}
 use mathlib.Core.List.{List, [], _∷_, _++_}
 use lib.Dec.{eqb, ltb, leb}
 use lib.ListN.{length, drop, replicate}
+use lib.Seq.{sets}
 use Rattle.inst.specs.declared.Inst.{Inst}
 use Rattle.inst.specs.Records.{part, plain}
 use Rattle.inst_decode.specs.Decode.{Answer, refused, reads, fromBytes}
@@ -46,9 +47,9 @@ head n = record { start = 0; len = 0; target = 0; next = n }
 
 -- a new definition is linked first: the head leads to it, and it to what the head led to
 unfoldable pub linked : Inst → ℕ → List Label → List Label
-linked i target [] = []
-linked i target (h ∷ ls) =
-    head (suc (length ls)) ∷ ls ++ (record { start = i .start; len = i .len; target = target; next = h .next } ∷ [])
+linked i index [] = []
+linked i index (h ∷ ls) =
+    head (suc (length ls)) ∷ ls ++ (record { start = i .start; len = i .len; target = index; next = h .next } ∷ [])
 
 -- reading
 
@@ -90,7 +91,7 @@ scan (suc fuel) image s =
 -- after the last byte
 
 pub data Entry : Type 0 where
-  none : Entry
+  noEntry : Entry
   entry : ℕ → Entry
 
 -- the target of the last definition of a name; e stands for the definitions before
@@ -115,7 +116,7 @@ closed is = cond (lastIsHalt is) is (is ++ (halt ∷ []))
 pub record Loaded : Type 0 where
   pub insts : List Inst
   pub labels : List Label
-  pub start : ℕ
+  pub ip : ℕ
 
 pub data Load : Type 0 where
   rejects : ℕ → Load
@@ -127,12 +128,12 @@ checked l = cond (ltb instLimit (length (l .insts))) (rejects 5) (cond (anyNativ
 
 -- 7, then HALT is appended
 unfoldable pub entered : Scan → Entry → Load
-entered s none = rejects 7
-entered s (entry e) = checked (record { insts = closed (s .insts); labels = s .labels; start = e })
+entered s noEntry = rejects 7
+entered s (entry e) = checked (record { insts = closed (s .insts); labels = s .labels; ip = e })
 
 unfoldable pub finished : List ℕ → Scanned → Load
 finished image (stops n) = rejects n
-finished image (goes s) = entered s (lastOf image startName none (drop 1 (s .labels)))
+finished image (goes s) = entered s (lastOf image startName noEntry (drop 1 (s .labels)))
 
 -- what an image gives, whatever tables are lent: 1, then instruction by instruction
 unfoldable pub loads : List ℕ → Load
@@ -143,17 +144,14 @@ unfoldable pub load : List ℕ → List Inst → List Label → Load
 load image insts labels =
     cond (ltb (length insts) instLimit || ltb (length labels) labelRecords) (rejects 10) (loads image)
 
--- a lent table after the call: slots past those filled are unchanged
-abbrev pub over : {A : Type 0} → List A → List A → List A
-over filled old = filled ++ drop (length filled) old
-
+-- a lent table after the call: the records stored from its front on, slots past those filled unchanged
 unfoldable pub instsAfter : Load → List Inst → List Inst
 instsAfter (rejects n) insts = insts
-instsAfter (accepts l) insts = over (l .insts) insts
+instsAfter (accepts l) insts = sets insts 0 (l .insts)
 
 unfoldable pub labelsAfter : Load → List Label → List Label
 labelsAfter (rejects n) labels = labels
-labelsAfter (accepts l) labels = over (l .labels) labels
+labelsAfter (accepts l) labels = sets labels 0 (l .labels)
 
 -- the fresh machine: not halted, empty stacks with every slot 0, zero bytes, flags 0
 unfoldable pub fresh : Loaded → Machine
@@ -162,10 +160,10 @@ fresh l =
       stack = replicate stackLimit 0;
       height = 0;
       calls = replicate callLimit 0;
-      depth = 0;
+      «call_height» = 0;
       memory = replicate memorySize 0;
       flags = 0;
-      ip = l .start;
+      ip = l .ip;
       halted = false;
     }
 

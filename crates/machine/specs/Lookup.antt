@@ -20,14 +20,14 @@ pub record Program : Type 0 where
 pub data Found : Type 0 where
   illChain : Found
   noLabel : Found
-  target : ℕ → Found
+  leadsTo : ℕ → Found
 
 abbrev pub labelAt : Program → ℕ → Label
 labelAt p i = getD (p .labels) i (head 0)
 
 -- 26 and 27 are also for a target that is not in the program
 abbrev pub inProgram : Program → ℕ → Found
-inProgram p t = cond (ltb t (p .count)) (target t) noLabel
+inProgram p t = cond (ltb t (p .count)) (leadsTo t) noLabel
 
 -- From the record with this index on. 34: an index past the table, or, from the second after the head on, not below the one before
 -- (`bound` is first the table's length, then the index before); a name part outside the image or with a byte of 128 or more.

@@ -7,32 +7,32 @@ use lib.ListN.{length, replicate}
 use Rattle.flag.specs.Flags.{isSet}
 use Rattle.inst.specs.Records.{plain}
 use Rattle.machine.specs.declared.Machine.{Machine}
-use Rattle.machine.specs.Lookup.{noLabel}
+use Rattle.machine.specs.Lookup.{Program}
 use Rattle.machine.specs.Change.{top}
-use Rattle.machine.specs.Step.{Stepped, next, dumps, trap, ill, opOf, exec}
+use Rattle.machine.specs.Step.{Stepped, succeeds, outputs, trap, ill, step}
 
 -- a machine with these cells, the last on top, and 7 at address 1,023
 unfoldable pub on : List ℕ → Machine
 on cells =
-    record { stack = cells; height = length cells; calls = []; depth = 0; memory = replicate 1023 0 ++ (7 ∷ []); flags = 0; ip = 0; halted = false }
+    record { stack = cells; height = length cells; calls = []; «call_height» = 0; memory = replicate 1023 0 ++ (7 ∷ []); flags = 0; ip = 0; halted = false }
 
 -- what a mark asks of a step: this cell on top, this trap, or the flag clear that the jump with this first byte tests
 pub data Asked : Type 0 where
   cell traps clear : ℕ → Asked
 
 unfoldable pub answers : Asked → Stepped → Bool
-answers (cell c) (next m) = eqb (top m) c
-answers (cell c) (dumps x m m') = false
+answers (cell c) (succeeds m) = eqb (top m) c
+answers (cell c) (outputs x m) = false
 answers (cell c) (trap t m) = false
-answers (cell c) (ill m) = false
-answers (traps n) (next m) = false
-answers (traps n) (dumps x m m') = false
+answers (cell c) ill = false
+answers (traps n) (succeeds m) = false
+answers (traps n) (outputs x m) = false
 answers (traps n) (trap t m) = eqb t n
-answers (traps n) (ill m) = false
-answers (clear jump) (next m) = not (isSet (m .flags) jump)
-answers (clear jump) (dumps x m m') = false
+answers (traps n) ill = false
+answers (clear jump) (succeeds m) = not (isSet (m .flags) jump)
+answers (clear jump) (outputs x m) = false
 answers (clear jump) (trap t m) = false
-answers (clear jump) (ill m) = false
+answers (clear jump) ill = false
 
 -- a first byte, the cells that its instruction finds, and what is asked
 pub record Mark : Type 0 where
@@ -63,6 +63,10 @@ marks =
     ∷ mark 9 (0x7FF2000000000005 ∷ 0x7FF2000000000005 ∷ []) (clear 14)
     ∷ []
 
+-- the record alone in its program
+abbrev pub alone : ℕ → Program
+alone typ = record { image = []; insts = plain typ 0 ∷ []; labels = []; count = 1 }
+
 unfoldable pub allHold : List Mark → Bool
 allHold [] = true
-allHold (k ∷ ks) = answers (k .asked) (exec noLabel (plain (k .typ) 0) (on (k .cells)) (opOf (k .typ))) && allHold ks
+allHold (k ∷ ks) = answers (k .asked) (step (alone (k .typ)) (on (k .cells))) && allHold ks

@@ -1,14 +1,15 @@
--- A run (execute_program), as document 01 has it, and a list of runs.
-use Prim.Native.Nat.{ℕ, zero, suc, _+_}
-use mathlib.Core.Bool.{cond}
+-- A run (execute_program), as document 01 has it.
+use Prim.Native.Nat.{ℕ, zero, suc, _-_}
+use mathlib.Core.Bool.{Bool, true, false, cond, _&&_}
 use mathlib.Core.List.{List, [], _∷_, _++_}
-use lib.ListN.{length, take}
+use lib.Dec.{eqb}
+use lib.ListN.{length}
+use lib.Seq.{sets}
 use Rattle.machine.specs.declared.Machine.{Machine}
 use Rattle.machine.specs.declared.Ending.{Ending}
-use Rattle.machine.specs.declared.Ending.the-variants.{Halted, Limit, Full, Ill, Trapped}
-use Rattle.machine.specs.Load.{over}
+use Rattle.machine.specs.declared.Ending.the-variants.{Halted, Limit, Number}
 use Rattle.machine.specs.Lookup.{Program}
-use Rattle.machine.specs.Step.{Stepped, next, dumps, trap, ill, step}
+use Rattle.machine.specs.Step.{Stepped, succeeds, outputs, trap, ill, step}
 
 -- a run's course: the machine at its end, its ending, the steps taken and the cells dumped
 pub record Course : Type 0 where
@@ -25,19 +26,49 @@ ended e m = record { machine = m; ending = e; steps = 0; cells = [] }
 abbrev pub after : List ℕ → Course → Course
 after cells r = record { machine = r .machine; ending = r .ending; steps = suc (r .steps); cells = cells ++ r .cells }
 
--- Behind a step, with room for so many dumps. 34 and then 33, a dump that would succeed with the buffer full, end the run without the step.
--- A trap is counted and ends the run.
-unfoldable pub follow : (ℕ → Machine → Course) → ℕ → Stepped → Course
-follow rest room (next m) = after [] (rest room m)
-follow rest zero (dumps c m m') = ended Full m
-follow rest (suc room) (dumps c m m') = after (c ∷ []) (rest room m')
-follow rest room (trap t m) = after [] (ended (Trapped t) m)
-follow rest room (ill m) = ended Ill m
+-- the step would be 34
+unfoldable pub isIll : Stepped → Bool
+isIll (succeeds m) = false
+isIll (outputs c m) = false
+isIll (trap t m) = false
+isIll ill = true
 
--- before each step: halted, ends HALTED; limit used up, LIMIT; then 34; then 33
+-- the step is a dump that would succeed
+unfoldable pub isDump : Stepped → Bool
+isDump (succeeds m) = false
+isDump (outputs c m) = true
+isDump (trap t m) = false
+isDump ill = false
+
+-- before a step the run ends, or the step is taken
+pub data Before : Type 0 where
+  ends : Ending → Before
+  goesOn : Before
+
+-- Before each step: halted, ends HALTED; limit used up, LIMIT; then 34; then 33, a dump that would succeed with the buffer full.
+-- m is the machine, `limit` and `room` are the steps and the slots of the buffer that are left, s is what the step would come to
+unfoldable pub before : Machine → ℕ → ℕ → Stepped → Before
+before m limit room s =
+    cond (m .halted) (ends Halted)
+    (cond (eqb limit 0) (ends Limit)
+    (cond (isIll s) (ends (Number 34))
+    (cond (isDump s && eqb room 0) (ends (Number 33)) goesOn)))
+
+-- A step from m that is taken counts, a trapping one too. A trap ends the run; otherwise `rest` follows. 34 is never taken
+unfoldable pub taken : Machine → (ℕ → Machine → Course) → ℕ → Stepped → Course
+taken m rest room (succeeds m') = after [] (rest room m')
+taken m rest room (outputs c m') = after (c ∷ []) (rest (room - 1) m')
+taken m rest room (trap t m') = after [] (ended (Number t) m')
+taken m rest room ill = ended (Number 34) m
+
+unfoldable pub turn : Machine → (ℕ → Machine → Course) → ℕ → Stepped → Before → Course
+turn m rest room s (ends e) = ended e m
+turn m rest room s goesOn = taken m rest room s
+
+-- step by step; with the limit used up there is no rest, and `before` ends the run
 unfoldable pub course : Program → ℕ → ℕ → Machine → Course
-course p zero room m = cond (m .halted) (ended Halted m) (ended Limit m)
-course p (suc limit) room m = cond (m .halted) (ended Halted m) (follow (course p limit) room (step p m))
+course p zero room m = let s = step p m in turn m (λ (r : ℕ). ended Limit) room s (before m 0 room s)
+course p (suc limit) room m = let s = step p m in turn m (course p limit) room s (before m (suc limit) room s)
 
 -- what a run returns: machine, ending, steps and cells dumped, and the lent buffer as it leaves it
 pub record Result : Type 0 where
@@ -50,30 +81,7 @@ pub record Result : Type 0 where
 -- dumps fill the lent buffer from its front and the rest of the buffer is unchanged
 unfoldable pub reported : List ℕ → Course → Result
 reported buffer r =
-    record { machine = r .machine; ending = r .ending; steps = r .steps; dumped = length (r .cells); buffer = over (r .cells) buffer }
+    record { machine = r .machine; ending = r .ending; steps = r .steps; dumped = length (r .cells); buffer = sets buffer 0 (r .cells) }
 
 unfoldable pub run : Program → ℕ → List ℕ → Machine → Result
 run p limit buffer m = reported buffer (course p limit (length buffer) m)
-
--- a list of runs, each with a limit and a buffer, and each from the machine that the one before left
-pub record Request : Type 0 where
-  pub limit : ℕ
-  pub buffer : List ℕ
-
-unfoldable pub runs : Program → Machine → List Request → List Result
-runs p m [] = []
-runs p m (q ∷ qs) = let r = run p (q .limit) (q .buffer) m in r ∷ runs p (r .machine) qs
-
-unfoldable pub lastMachine : Machine → List Result → Machine
-lastMachine m [] = m
-lastMachine m (r ∷ rs) = lastMachine (r .machine) rs
-
--- the sum of the reported steps
-unfoldable pub totalSteps : List Result → ℕ
-totalSteps [] = 0
-totalSteps (r ∷ rs) = r .steps + totalSteps rs
-
--- a run's dumped cells are the front of its buffer at that run's return, as many as it reports; joined in order
-unfoldable pub allDumped : List Result → List ℕ
-allDumped [] = []
-allDumped (r ∷ rs) = take (r .dumped) (r .buffer) ++ allDumped rs

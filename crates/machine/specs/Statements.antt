@@ -1,44 +1,98 @@
--- What is proved of the definitions, as statements: demand 3, and what a trap leaves. Definitions only.
-use Prim.Native.Nat.{ℕ, suc, _+_, _-_, _≤_, _<_}
-use mathlib.Core.Bool.{cond}
-use lib.Dec.{eqb}
+-- What is proved of runs, as statements: of every run, that it is a history; demand 3; and that no recursion's bound is used up. Definitions only.
+use Prim.Native.Nat.{ℕ, suc, _+_, _≤_, _<_}
 use mathlib.Core.Path.{_≡_}
-use mathlib.Core.List.{List, [], _∷_, map}
+use mathlib.Core.Bool.{true, false}
+use mathlib.Core.List.{List, [], _∷_, _++_, map}
 use lib.IntN.{pos}
-use lib.ListN.{length, take}
+use lib.ListN.{length, take, drop}
 use Rattle.inst.specs.declared.Inst.{Inst}
 use Rattle.inst.specs.Records.{Bytes}
 use Rattle.machine.specs.declared.Machine.{Machine}
 use Rattle.machine.specs.declared.Label.{Label}
-use Rattle.machine.specs.declared.Ending.the-variants.{Limit, Ill}
-use Rattle.machine.specs.Load.{Loaded, accepts, load, instsAfter, labelsAfter, fresh, countOf}
-use Rattle.machine.specs.Lookup.{Program}
-use Rattle.machine.specs.Change.{poppedBy, stacked}
-use Rattle.machine.specs.Step.{trap, step}
-use Rattle.machine.specs.Effects.{Effects, Calls, calls, returns, keeps, lost}
-use Rattle.machine.specs.Run.{Request, Result, runs, lastMachine, totalSteps, allDumped}
-use Rattle.machine.specs.History.{State, end, effectsAt, history}
+use Rattle.machine.specs.declared.Ending.{Ending}
+use Rattle.machine.specs.declared.Ending.the-variants.{Halted, Limit, Number}
+use Rattle.machine.specs.Load.{Loaded, accepts, load, instsAfter, labelsAfter, fresh, countOf, Scan, goes, begin, scan}
+use Rattle.machine.specs.Change.{callHeight}
+use Rattle.machine.specs.Lookup.{Program, walk}
+use Rattle.machine.specs.Step.{trap, ill, step}
+use Rattle.machine.specs.Run.{isDump, Result, run}
+use Rattle.machine.specs.History.{State, initial, end, programOf, history}
+
+-- what a run is asked: a limit, and a buffer that is lent
+pub record Request : Type 0 where
+  pub limit : ℕ
+  pub buffer : List ℕ
+
+-- ---- one run, for every program and machine
+
+-- Why a run of p from the state s ends with the number n: after so many steps of its limit, with so many cells dumped of its room, on the machine m
+pub data Why (p : Program) (s : State) (steps limit dumped room : ℕ) (m : Machine) (n : ℕ) : Type 0 where
+  -- 34, and the limit isn't used up
+  is-ill : n ≡ 34 → step p m ≡ ill → m .halted ≡ false → steps < limit → Why p s steps limit dumped room m n
+  -- 33, a dump that would succeed with the buffer full
+  is-full : n ≡ 33 → isDump (step p m) ≡ true → dumped ≡ room → m .halted ≡ false → steps < limit → Why p s steps limit dumped room m n
+  -- the last step is the trap n
+  is-trap : (k : ℕ) (u : State) → suc k ≡ steps → history p s k ≡ end u → step p (u .machine) ≡ trap n m → Why p s steps limit dumped room m n
+
+-- the condition of each ending
+unfoldable pub Because : Program → State → (steps limit dumped room : ℕ) → Machine → Ending → Type 0
+Because p s steps limit dumped room m Halted = m .halted ≡ true
+Because p s steps limit dumped room m Limit = (m .halted ≡ false) × (steps ≡ limit)
+Because p s steps limit dumped room m (Number n) = Why p s steps limit dumped room m n
+
+-- the result r of a run of p from m is the history of as many steps as it reports, and its ending's condition holds
+pub record IsHistory (p : Program) (m : Machine) (q : Request) (r : Result) : Type 0 where
+  pub last : State
+  pub history-is : history p (initial m) (r .steps) ≡ end last
+  pub machine-is : r .machine ≡ last .machine
+  pub dumps-are : take (r .dumped) (r .buffer) ≡ last .dumps
+  pub rest-is : drop (r .dumped) (r .buffer) ≡ drop (r .dumped) (q .buffer)
+  pub within : r .steps ≤ q .limit
+  pub fits : r .dumped ≤ length (q .buffer)
+  pub because : Because p (initial m) (r .steps) (q .limit) (r .dumped) (length (q .buffer)) (r .machine) (r .ending)
+
+abbrev pub RunsAreHistories : Type 0
+RunsAreHistories = (p : Program) (m : Machine) (q : Request) → IsHistory p m q (run p (q .limit) (q .buffer) m)
+
+-- ---- demand 3
+
+-- the machine that the last run left, m where there is none
+unfoldable pub lastMachine : Machine → List Result → Machine
+lastMachine m [] = m
+lastMachine m (r ∷ rs) = lastMachine (r .machine) rs
+
+-- the sum of the reported steps
+unfoldable pub totalSteps : List Result → ℕ
+totalSteps [] = 0
+totalSteps (r ∷ rs) = r .steps + totalSteps rs
+
+-- a run's dumped cells are the front of its buffer at that run's return, as many as it reports; joined in order
+unfoldable pub allDumped : List Result → List ℕ
+allDumped [] = []
+allDumped (r ∷ rs) = take (r .dumped) (r .buffer) ++ allDumped rs
 
 -- the return addresses, oldest first
 abbrev pub addresses : Machine → List ℕ
-addresses m = take (m .depth) (m .calls)
+addresses m = take (callHeight m) (m .calls)
+
+-- at a point of the history, what is counted is the machine's: its height, and the return addresses are one past the open calls
+pub record Counted (s : State) : Type 0 where
+  pub height-is : s .height ≡ pos (s .machine .height)
+  pub addresses-are : addresses (s .machine) ≡ map suc (s .open-calls)
 
 unfoldable pub AllBelow : ℕ → List ℕ → Type 0
 AllBelow n [] = Unit {0}
 AllBelow n (x ∷ xs) = (x < n) × AllBelow n xs
 
--- at a point of the history: height is the machine's height, the return addresses are one past the open calls, pointer and return addresses
--- are below the count
-pub record Agrees (count : ℕ) (s : State) : Type 0 where
-  pub height-is : s .height ≡ pos (s .machine .height)
-  pub addresses-are : addresses (s .machine) ≡ map suc (s .open-calls)
-  pub pointer-below : s .machine .ip < count
-  pub addresses-below : AllBelow count (addresses (s .machine))
+-- pointer and return addresses are below the program's length
+pub record Below (count : ℕ) (m : Machine) : Type 0 where
+  pub pointer-below : m .ip < count
+  pub addresses-below : AllBelow count (addresses m)
 
 -- one run of a list: it doesn't end with 34, reports at most its limit, and exactly it where it ends by LIMIT; it dumps no more cells
 -- than its buffer has
 pub record Kept (q : Request) (r : Result) : Type 0 where
-  pub never-ill : r .ending ≡ Ill → ⊥
+  pub never-ill : r .ending ≡ Number 34 → ⊥
   pub within : r .steps ≤ q .limit
   pub exact : r .ending ≡ Limit → r .steps ≡ q .limit
   pub fits : r .dumped ≤ length (q .buffer)
@@ -52,11 +106,24 @@ AllKept (q ∷ qs) (r ∷ rs) = Kept q r × AllKept qs rs
 -- the results rs of runs, in order from the fresh machine, are those of one history
 pub record OneHistory (image : List ℕ) (l : Loaded) (qs : List Request) (rs : List Result) : Type 0 where
   pub last : State
-  pub history-is : history image l (totalSteps rs) ≡ end last
+  pub history-is : history (programOf image l) (initial (fresh l)) (totalSteps rs) ≡ end last
   pub machine-is : last .machine ≡ lastMachine (fresh l) rs
   pub dumps-are : last .dumps ≡ allDumped rs
-  pub always : (k : ℕ) → k ≤ totalSteps rs → (s : State) × (history image l k ≡ end s) × Agrees (countOf l) s
+  pub always : (k : ℕ) → k ≤ totalSteps rs
+      → (s : State) × (history (programOf image l) (initial (fresh l)) k ≡ end s) × Counted s × Below (countOf l) (s .machine)
   pub all-kept : AllKept qs rs
+
+-- each result is what `run` gives for its request and the machine of the one before, the first from m
+unfoldable pub RunsFrom : Program → Machine → List Request → List Result → Type 0
+RunsFrom p m [] [] = Unit {0}
+RunsFrom p m [] (r ∷ rs) = ⊥
+RunsFrom p m (q ∷ qs) [] = ⊥
+RunsFrom p m (q ∷ qs) (r ∷ rs) = (r ≡ run p (q .limit) (q .buffer) m) × RunsFrom p (r .machine) qs rs
+
+-- such results, computed
+unfoldable pub runs : Program → Machine → List Request → List Result
+runs p m [] = []
+runs p m (q ∷ qs) = let r = run p (q .limit) (q .buffer) m in r ∷ runs p (r .machine) qs
 
 -- what the runs are lent: the image, the tables as load leaves them, and the count
 unfoldable pub lent : List ℕ → List Inst → List Label → Loaded → Program
@@ -67,25 +134,14 @@ lent image insts labels l =
 abbrev pub RunsAreOneHistory : Type 0
 RunsAreOneHistory =
     (image : List ℕ) (insts : List Inst) (labels : List Label) (l : Loaded) → Bytes image → load image insts labels ≡ accepts l
-    → (qs : List Request) → OneHistory image l qs (runs (lent image insts labels l) (fresh l) qs)
+    → (qs : List Request) (rs : List Result) → RunsFrom (lent image insts labels l) (fresh l) qs rs → OneHistory image l qs rs
 
--- What a trap leaves of m: all but the listed pops, and the address of 27
-unfoldable pub addressed : Calls → ℕ → Machine → Machine
-addressed keeps t m = m
-addressed returns t m = m
-addressed calls t m = cond (eqb t 27) (stacked (m .ip + 1) m) m
+-- ---- the numbers that bound the recursions of load and lookup only let the definitions end
 
-abbrev pub trapLeaves : Effects → ℕ → Machine → Machine
-trapLeaves e t m = poppedBy (lost e t) (addressed (e .on-calls) t m)
+-- an image that was read without a number was read to its last byte
+abbrev pub ReadsToEnd : Type 0
+ReadsToEnd = (image : List ℕ) (s : Scan) → scan (length image) image begin ≡ goes s → length image ≤ s .at
 
--- m' is what the trap t leaves of m, where the instruction has the effects e: there were cells enough to pop, and so the pointer and the
--- height are these
-pub record TrapLeft (e : Effects) (t : ℕ) (m m' : Machine) : Type 0 where
-  pub enough : lost e t ≤ m .height
-  pub machine-is : m' ≡ trapLeaves e t m
-  pub pointer-is : m' .ip ≡ m .ip
-  pub height-is : m' .height ≡ m .height - lost e t
-
--- of every step that traps, for every program and machine
-abbrev pub TrapsLeave : Type 0
-TrapsLeave = (p : Program) (m : Machine) (t : ℕ) (m' : Machine) → step p m ≡ trap t m' → TrapLeft (effectsAt p m) t m m'
+-- a walk from below the bound finds the same with more fuel than the bound
+abbrev pub WalksToEnd : Type 0
+WalksToEnd = (p : Program) (name : List ℕ) (fuel bound i : ℕ) → 0 < bound → bound ≤ fuel → walk (suc fuel) p name bound i ≡ walk fuel p name bound i

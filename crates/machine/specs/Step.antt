@@ -16,16 +16,16 @@ use Rattle.inst.specs.Records.{wellFormed}
 use Rattle.machine.specs.declared.Machine.{Machine}
 use Rattle.machine.specs.Limits.{stackLimit, callLimit, memorySize}
 use Rattle.machine.specs.Load.{halt}
-use Rattle.machine.specs.Lookup.{Program, Found, illChain, noLabel, target, lookup}
-use Rattle.machine.specs.Change.{moved, stopped, onward, withFlags, cellAt, top, bottom, pushed, poppedBy, popped, replaced, swapped, stacked, returned, written}
+use Rattle.machine.specs.Lookup.{Program, Found, illChain, noLabel, leadsTo, lookup}
+use Rattle.machine.specs.Change.{callHeight, moved, stopped, onward, withFlags, cellAt, top, bottom, pushed, poppedBy, popped, replaced, swapped, stacked, returned, written}
 
--- What a step comes to: the machine to go on with; a cell to dump, with the machine before the step and after it; a trap with the machine
--- that it leaves; or 34, nothing changed.
+-- What a step comes to: success, with the machine that it leaves; a dump's success, with the cell too; a trap by its number, with the
+-- machine that it leaves; or 34, which leaves no machine as no step is taken.
 pub data Stepped : Type 0 where
-  next : Machine → Stepped
-  dumps : ℕ → Machine → Machine → Stepped
+  succeeds : Machine → Stepped
+  outputs : ℕ → Machine → Stepped
   trap : ℕ → Machine → Stepped
-  ill : Machine → Stepped
+  ill : Stepped
 
 -- m must b else t then rest: where b fails, the trap t with the machine m
 unfoldable pub _must_else_then_ : Machine → Bool → ℕ → Stepped → Stepped
@@ -87,18 +87,18 @@ minus (negsuc n) = true
 unfoldable pub push : ℕ → Machine → Stepped
 push v m =
     m must ltb (m .height) stackLimit else 21 then
-    next (onward (pushed v m))
+    succeeds (onward (pushed v m))
 
 unfoldable pub pop : Machine → Stepped
 pop m =
     m must ltb 0 (m .height) else 20 then
-    next (onward (popped m))
+    succeeds (onward (popped m))
 
 -- INC, DEC: the top replaced
 unfoldable pub adjust : (ℕ → ℕ) → Machine → Stepped
 adjust f m =
     m must ltb 0 (m .height) else 20 then
-    next (onward (replaced (f (top m)) m))
+    succeeds (onward (replaced (f (top m)) m))
 
 -- the right operand of all eight is last
 unfoldable pub ofCells : Integer → ℕ → ℕ → ℕ
@@ -124,7 +124,7 @@ integerStep k m =
     p must known a && known b else 31 then
     p must is I64 a && is I64 b else 30 then
     p must divides k b else 24 then
-    next (onward (replaced (ofCells k a b) p))
+    succeeds (onward (replaced (ofCells k a b) p))
 
 unfoldable pub ofFloats : Float → ℕ → ℕ → ℕ
 ofFloats FADD a b = sumBits a b
@@ -137,20 +137,20 @@ unfoldable pub floatStep : Float → Machine → Stepped
 floatStep k m =
     let p = popped m in
     m must leb 2 (m .height) else 20 then
-    next (onward (replaced (ofFloats k (top p) (top m)) p))
+    succeeds (onward (replaced (ofFloats k (top p) (top m)) p))
 
 -- CMP compares as_u64 of last but one and last, pops last
 unfoldable pub compare : Machine → Stepped
 compare m =
     let p = popped m in
     m must leb 2 (m .height) else 20 then
-    next (onward (withFlags (cmp (asU64 (top p)) (asU64 (top m))) p))
+    succeeds (onward (withFlags (cmp (asU64 (top p)) (asU64 (top m))) p))
 
 -- SWAP and DUP by depth, 0 the top
 unfoldable pub swap : ℕ → Machine → Stepped
 swap d m =
     m must ltb d (m .height) else 20 then
-    next (onward (swapped d m))
+    succeeds (onward (swapped d m))
 
 unfoldable pub dup : ℕ → Machine → Stepped
 dup d m =
@@ -165,39 +165,39 @@ bot m =
 
 -- conditional jumps look the label up before the flag: 26 even if not taken
 unfoldable pub jumpIf : Bool → Found → Machine → Stepped
-jumpIf flag illChain m = ill m
+jumpIf flag illChain m = ill
 jumpIf flag noLabel m = trap 26 m
-jumpIf flag (target i) m = cond flag (next (moved i m)) (next (onward m))
+jumpIf flag (leadsTo i) m = cond flag (succeeds (moved i m)) (succeeds (onward m))
 
 unfoldable pub jump : Found → Machine → Stepped
-jump illChain m = ill m
+jump illChain m = ill
 jump noLabel m = trap 26 m
-jump (target i) m = next (moved i m)
+jump (leadsTo i) m = succeeds (moved i m)
 
 -- with the address stacked: 27 leaves it
 unfoldable pub callTo : Found → Machine → Stepped
-callTo illChain m = ill m
+callTo illChain m = ill
 callTo noLabel m = trap 27 (stacked (m .ip + 1) m)
-callTo (target i) m = next (moved i (stacked (m .ip + 1) m))
+callTo (leadsTo i) m = succeeds (moved i (stacked (m .ip + 1) m))
 
 -- CALL: 23, then the address one past it is stacked, then lookup
 unfoldable pub call : Found → Machine → Stepped
 call found m =
-    m must ltb (m .depth) callLimit else 23 then
+    m must ltb (callHeight m) callLimit else 23 then
     callTo found m
 
 -- RET: 22; the pointer is set to the address that it pops
 unfoldable pub ret : Machine → Stepped
 ret m =
-    m must ltb 0 (m .depth) else 22 then
-    next (returned m)
+    m must ltb 0 (callHeight m) else 22 then
+    succeeds (returned m)
 
 -- IDMP, FDMP: 20, then 32 unless the stream is 1 or 2; the cell stays
 unfoldable pub dump : ℕ → Machine → Stepped
 dump stream m =
     m must ltb 0 (m .height) else 20 then
     m must eqb stream 1 || eqb stream 2 else 32 then
-    dumps (top m) m (onward m)
+    outputs (top m) (onward m)
 
 -- what a conversion does with the cell c: whether it takes c's type, whether c is below zero where that is refused, and what it gives
 pub record Rule : Type 0 where
@@ -230,7 +230,7 @@ convert k m =
     p must known c else 31 then
     p must ruleOf k c .takes else 28 then
     p must not (ruleOf k c .below) else 29 then
-    next (onward (replaced (ruleOf k c .gives) m))
+    succeeds (onward (replaced (ruleOf k c .gives) m))
 
 -- READ of each width pops the address and pushes one byte as U64; 25 after the pop
 unfoldable pub read : Machine → Stepped
@@ -238,7 +238,7 @@ read m =
     let a = asU64 (top m) in
     m must ltb 0 (m .height) else 20 then
     popped m must ltb a memorySize else 25 then
-    next (onward (replaced (fromU64 (getD (m .memory) a 0)) m))
+    succeeds (onward (replaced (fromU64 (getD (m .memory) a 0)) m))
 
 -- WRITE of each width stores as_u64 of last modulo 256 at the address in last but one; 25 after the pops
 unfoldable pub write : Machine → Stepped
@@ -247,11 +247,11 @@ write m =
     let a = asU64 (cellAt 1 m) in
     m must leb 2 (m .height) else 20 then
     p must ltb a memorySize else 25 then
-    next (onward (written a (asU64 (top m) % 256) p))
+    succeeds (onward (written a (asU64 (top m) % 256) p))
 
 -- the instruction i, which op is; `found` is what the lookup of its name would find. HALT sets halted; the pointer stays
 unfoldable pub exec : Found → Inst → Machine → Op → Stepped
-exec found i m NOP = next (onward m)
+exec found i m NOP = succeeds (onward m)
 exec found i m PUSH = push (i .val) m
 exec found i m POP = pop m
 exec found i m INC = adjust inc m
@@ -267,7 +267,7 @@ exec found i m RET = ret m
 exec found i m DMP = dump (i .val) m
 exec found i m READ = read m
 exec found i m WRITE = write m
-exec found i m HALT = next (stopped m)
+exec found i m HALT = succeeds (stopped m)
 exec found i m (integer k) = integerStep k m
 exec found i m (float k) = floatStep k m
 exec found i m (conversion k) = convert k m
@@ -279,7 +279,7 @@ instAt p m = getD (p .insts) (m .ip) halt
 unfoldable pub wellState : Program → Machine → Bool
 wellState p m =
     leb (m .height) stackLimit
-    && leb (m .depth) callLimit
+    && leb (callHeight m) callLimit
     && ltb (m .ip) (p .count)
     && leb (p .count) (length (p .insts))
     && wellFormed (p .image) (instAt p m)
@@ -288,4 +288,4 @@ wellState p m =
 unfoldable pub step : Program → Machine → Stepped
 step p m =
     let i = instAt p m in
-    cond (wellState p m) (exec (lookup p i) i m (opOf (i .typ))) (ill m)
+    cond (wellState p m) (exec (lookup p i) i m (opOf (i .typ))) ill

@@ -1,10 +1,15 @@
 -- What is proved of the definitions, together. `machine_theorems` in src/lib.rt states that it holds.
 use mathlib.Core.Path.{_≡_}
 use mathlib.Core.Bool.{true}
-use Rattle.machine.specs.Statements.{RunsAreOneHistory, TrapsLeave}
+use Rattle.machine.specs.Steps.{TrapsLeave, StepsTouch}
+use Rattle.machine.specs.Statements.{RunsAreHistories, RunsAreOneHistory, ReadsToEnd, WalksToEnd}
 use Rattle.machine.specs.Marks.{marks, allHold}
 
 pub record Theorems : Type 0 where
   pub one-history : RunsAreOneHistory
+  pub runs : RunsAreHistories
   pub traps-leave : TrapsLeave
+  pub steps-touch : StepsTouch
+  pub reads-to-end : ReadsToEnd
+  pub walks-to-end : WalksToEnd
   pub marks-hold : allHold marks ≡ true

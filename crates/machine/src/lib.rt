@@ -1,13 +1,13 @@
 // The machine's types. Document 01's definitions over them stand in specs/, the theorems in proofs/.
 ghost use Rattle.machine.specs.Theorems.{Theorems};
 
-// One machine. The data stack is the first `height` cells of `stack`, the call stack the first `depth`
+// One machine. The data stack is the first `height` cells of `stack`, the call stack the first `call_height`
 // addresses of `calls`.
 pub struct Machine {
     pub stack: [u64; 1024],
     pub height: usize,
     pub calls: [u64; 1024],
-    pub depth: usize,
+    pub call_height: usize,
     pub memory: [u8; 1024],
     pub flags: u8,
     pub ip: usize,
@@ -22,13 +22,11 @@ pub struct Label {
     pub next: u64,
 }
 
-// How a run ends. Full is document 01's 33, Ill its 34, and a trap has its own number.
+// How a run ends, in document 01's words: halt, limit or number.
 pub enum Ending {
     Halted,
     Limit,
-    Full,
-    Ill,
-    Trapped(u8),
+    Number(u8),
 }
 
 // No code: its contract states the theorems on the definitions.

@@ -1,9 +1,23 @@
 -- `machine::machine_theorems` meets its contract. Assumes nothing.
 use Rattle.machine.proofs.Runs.{runs-are-one-history}
+use Rattle.machine.proofs.Histories.{runs-are-histories}
 use Rattle.machine.proofs.Does.{traps-leave}
+use Rattle.machine.proofs.Touch.{steps-touch}
+use Rattle.machine.proofs.Fuel.{reads-to-end, walks-to-end}
 use Rattle.machine.proofs.Marks.{marks-hold}
 use Rattle.machine.proofs.machine_theorems.Statement.{statement}
 use Rattle.machine.proofs.machine_theorems.Tie as tie
 
 pub machine-theorems-spec : {M : Type 1} → statement M
-machine-theorems-spec = tie.close (tie.spec (λ c. record { one-history = runs-are-one-history; traps-leave = traps-leave; marks-hold = marks-hold }))
+machine-theorems-spec =
+    tie.close
+    (tie.spec
+    (λ c. record {
+      one-history = runs-are-one-history;
+      runs = runs-are-histories;
+      traps-leave = traps-leave;
+      steps-touch = steps-touch;
+      reads-to-end = reads-to-end;
+      walks-to-end = walks-to-end;
+      marks-hold = marks-hold;
+    }))
