@@ -1,0 +1,4 @@
+pub mod Tests
+pub mod IntegerLaws
+pub mod FloatLaws
+pub mod ConversionLaws

@@ -1,0 +1,70 @@
+// What the instructions of execute_instruction share: the machine's numbers, and what an instruction comes to. The
+// stacks and the memory are lent beside them.
+ghost use mathlib.Core.Path.{_≡_};
+ghost use Prim.Native.Nat.{_+_, _<_, _^_};
+ghost use Rattle.step_core.specs.declared.Executed.the-variants.{Next, Trap};
+
+// The most cells and return addresses, and the bytes of the memory.
+pub const STACK_LIMIT: usize = 1024;
+
+pub const CALL_LIMIT: usize = 1024;
+
+pub const MEMORY_SIZE: usize = 1024;
+
+// The numbers that nearly every step changes. All fields have eight bytes: a u8 among them would leave seven bytes of
+// padding, which the compiler then copies through memory at each step (2.2 instead of 1.6 ns a step). So the flags
+// are a number beside the core.
+pub struct Core {
+    pub ip: usize,
+    pub height: usize,
+    pub call_height: usize,
+}
+
+// Success, for CMP with its new flags; a cell to dump, and the machine after it; HALT; a trap with the machine that it
+// leaves; 34, nothing changed.
+pub enum Executed {
+    Next(Core),
+    Compared(Core, u8),
+    Dump(Core, u64),
+    Halt(Core),
+    Trap(Core, u8),
+    Ill,
+}
+
+// Success with the height given: the pointer goes to the next instruction. Called only by our own steps, which know
+// that the pointer is below a table's length.
+pub fn onward(core: Core, height: usize) -> Executed
+    requires { ⌜ core .ip + 1 < 2 ^ 64 ⌝ }
+    ensures { λ r. ⌜ r ≡ Next (record { ip = core .ip + 1; height = height; «call_height» = core .«call_height» }) ⌝ }
+{
+    Executed::Next(Core {
+        ip: core.ip + 1,
+        height: height,
+        call_height: core.call_height,
+    })
+}
+
+// Success with the pointer at `to`.
+pub fn moved(core: Core, to: usize) -> Executed
+    ensures { λ r. ⌜ r ≡ Next (record { ip = to; height = core .height; «call_height» = core .«call_height» }) ⌝ }
+{
+    Executed::Next(Core {
+        ip: to,
+        height: core.height,
+        call_height: core.call_height,
+    })
+}
+
+// The trap t, which leaves the height given.
+pub fn trap(core: Core, height: usize, t: u8) -> Executed
+    ensures { λ r. ⌜ r ≡ Trap (record { ip = core .ip; height = height; «call_height» = core .«call_height» }) t ⌝ }
+{
+    Executed::Trap(
+        Core {
+            ip: core.ip,
+            height: height,
+            call_height: core.call_height,
+        },
+        t,
+    )
+}

@@ -1,0 +1,40 @@
+-- `step_flow::jumps::jump_if` meets its contract. Assumes nothing.
+use mathlib.Core.Path.{refl}
+use Rattle.machine.specs.Step.{jumpIf}
+use Rattle.machine.specs.Change as change
+use Rattle.step_core.specs.Parts.{foundOf}
+use Rattle.step_core.proofs.Answers.{success, trapped, refused}
+use borrow.Author.Tests.{ne-eqb}
+use borrow.Author.Needs.{needs}
+use Rattle.step_flow.proofs.jumps.jump_if.Statement.{statement}
+use Rattle.step_flow.proofs.jumps.jump_if.Tie as tie
+
+returns : tie.Need-returns
+unfolding jumpIf change.moved foundOf
+returns c s ca me = trapped refl (λ f. simp (c .match .keys1))
+
+returns-2 : tie.Need-returns-2
+unfolding jumpIf change.moved foundOf
+returns-2 c s ca me = refused refl (λ f. simp (c .match .keys2))
+
+returns-3 : tie.Need-returns-3
+unfolding jumpIf change.moved foundOf
+returns-3 c s ca me = success (c .moved .ensures) (λ f. simp (ne-eqb _ _ (c .before .before .before .match .rest .1), ne-eqb _ _ (c .before .before .before .match .rest .0 .1), ← (c .before .before .is-set .ensures), c .before .if1 .taken)) (search needs)
+
+returns-4 : tie.Need-returns-4
+unfolding jumpIf change.moved foundOf
+returns-4 c s ca me = success (c .moved2 .ensures) (λ f. simp (ne-eqb _ _ (c .before .before .before .before .match .rest .1), ne-eqb _ _ (c .before .before .before .before .match .rest .0 .1), ← (c .before .before .before .is-set .ensures), c .before .before .if1 .left)) (search needs)
+
+pub jump-if-spec : {M : Type 1} → statement M
+jump-if-spec =
+    tie.close
+    (tie.spec
+    (λ c κs. search needs)
+    (λ c. search needs)
+    (λ c κs. search needs)
+    (λ c. search needs)
+    (λ c κs. search needs)
+    returns
+    returns-2
+    returns-3
+    returns-4)

@@ -1,0 +1,39 @@
+// IDMP and FDMP.
+ghost use mathlib.Core.Path.{_≡_};
+ghost use mathlib.Core.Bool.{_||_};
+ghost use lib.Dec.{eqb};
+ghost use Rattle.machine.specs.Step as definition;
+ghost use Rattle.step_core.specs.Parts.{Tested, OnStack};
+use step_core::Core;
+use step_core::Executed;
+use step_core::STACK_LIMIT;
+use step_core::trap;
+
+fn is_stream(stream: u64) -> bool
+    ensures { λ r. ⌜ r ≡ (eqb stream 1 || eqb stream 2) ⌝ }
+{
+    if stream == 1 { true } else { stream == 2 }
+}
+
+pub fn dump(core: Core, stack: &[u64; STACK_LIMIT], stream: u64) -> Executed
+    requires { ⌜ Tested core ⌝ }
+    ensures { λ r. ⌜ OnStack (definition.dump stream) core (now (stack .entry)) r (now (stack .entry)) ⌝ }
+{
+    let height = core.height;
+    if 0 < height {
+        if is_stream(stream) {
+            Executed::Dump(
+                Core {
+                    ip: core.ip + 1,
+                    height: height,
+                    call_height: core.call_height,
+                },
+                stack[height - 1],
+            )
+        } else {
+            trap(core, height, 32)
+        }
+    } else {
+        trap(core, height, 20)
+    }
+}

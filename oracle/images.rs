@@ -1,0 +1,106 @@
+// Runs a program on the images of images.txt, each on its standard input, and compares what it prints.
+// Usage: oracle-images PROGRAM IMAGES
+use std::io::Write;
+use std::process::{exit, Command, Stdio};
+
+struct Image {
+    name: String,
+    bytes: Vec<u8>,
+    lines: Vec<String>,
+}
+
+fn hex(digits: &str) -> u64 {
+    u64::from_str_radix(digits, 16).unwrap_or_else(|_| panic!("no hexadecimal number: {digits}"))
+}
+
+// The bytes of one word of a line `bytes`.
+fn token(word: &str, out: &mut Vec<u8>) {
+    if word == "S" {
+        token("15\"_start\"", out);
+    } else if let Some((op, cell)) = word.split_once('=') {
+        out.push(hex(op) as u8);
+        out.extend_from_slice(&hex(cell).to_le_bytes());
+    } else if let Some((op, name)) = word.split_once('"') {
+        let name = name.trim_end_matches('"');
+        out.push(hex(op) as u8);
+        out.extend_from_slice(&(name.len() as u64).to_le_bytes());
+        out.extend_from_slice(name.as_bytes());
+    } else {
+        out.push(hex(word) as u8);
+    }
+}
+
+fn bytes(words: &str) -> Vec<u8> {
+    let mut out = Vec::new();
+    let mut from = 0;
+    for word in words.split_whitespace() {
+        if word == "(" {
+            from = out.len();
+        } else if let Some(times) = word.strip_prefix(")*") {
+            let group = out[from..].to_vec();
+            for _ in 1..times.parse::<usize>().expect("a number of times") {
+                out.extend_from_slice(&group);
+            }
+        } else {
+            token(word, &mut out);
+        }
+    }
+    out
+}
+
+// A line `print TEXT`, or `print TEXT *N` for N such lines.
+fn printed(text: &str, lines: &mut Vec<String>) {
+    let (line, times) = text.split_once(" *").unwrap_or((text, "1"));
+    for _ in 0..times.parse::<usize>().expect("a number of lines") {
+        lines.push(line.to_string());
+    }
+}
+
+fn parse(text: &str) -> Vec<Image> {
+    let mut all: Vec<Image> = Vec::new();
+    for line in text.lines() {
+        let (key, rest) = line.split_once(' ').unwrap_or((line, ""));
+        if key == "image" {
+            all.push(Image { name: rest.to_string(), bytes: Vec::new(), lines: Vec::new() });
+        }
+        let Some(image) = all.last_mut() else { continue };
+        match key {
+            "bytes" => image.bytes = bytes(rest),
+            "print" => printed(rest, &mut image.lines),
+            _ => {}
+        }
+    }
+    all
+}
+
+fn run(program: &str, image: &[u8]) -> std::io::Result<(String, bool)> {
+    let mut child = Command::new(program).stdin(Stdio::piped()).stdout(Stdio::piped()).spawn()?;
+    // a program that has seen enough may close its input
+    let _ = child.stdin.take().expect("a pipe").write_all(image);
+    let out = child.wait_with_output()?;
+    Ok((String::from_utf8_lossy(&out.stdout).into_owned(), out.status.success()))
+}
+
+fn main() {
+    let arguments: Vec<String> = std::env::args().collect();
+    let [_, program, images] = arguments.as_slice() else {
+        eprintln!("usage: oracle-images PROGRAM IMAGES");
+        exit(2);
+    };
+    let text = std::fs::read_to_string(images).expect("the file of images");
+    let all = parse(&text);
+    let mut wrong = 0;
+    for image in &all {
+        let (got, success) = run(program, &image.bytes).expect("the program runs");
+        let mut want = image.lines.join("\n");
+        want.push('\n');
+        if got != want || !success {
+            wrong += 1;
+            println!("{}: wanted\n{want}and got (success: {success})\n{got}", image.name);
+        }
+    }
+    println!("images: {} run, {wrong} wrong", all.len());
+    if wrong > 0 || all.len() < 20 {
+        exit(1);
+    }
+}
