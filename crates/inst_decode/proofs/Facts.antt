@@ -13,10 +13,11 @@ use Rattle.inst.specs.Records.{Bytes, nameOk, part, nameIn, fits, wellFormed}
 use Rattle.inst.proofs.Laws.{by-test}
 use Rattle.inst_decode.specs.Decode.{Answer, refused, reads, typeOf, word, magnitude, isNegative, readName, readOperand, fromBytes}
 
--- what was read moves on, lies in the image and is well formed, and 27 was read as 46
+-- what was read moves on, lies in the image with its name and is well formed, and 27 was read as 46
 pub record ReadIn (image : List ℕ) (at : ℕ) (i : Inst) (size : ℕ) : Type 0 where
   pub moves : 1 ≤ size
   pub inside : at + size ≤ length image
+  pub name-inside : i .start + i .len ≤ length image
   pub formed : Bytes image → wellFormed image i ≡ true
   pub not-idmp : eqb (i .typ) 27 ≡ false
 
@@ -47,19 +48,19 @@ module _ (image : List ℕ) (at op : ℕ) where
       (λ _. by-test (Told image at) (ltb (length image) (at + 9 + len)) _ _ (λ _. (lit≤ tt, lit≤ tt))
       (λ k. let l = ltb-false (length image) (at + 9 + len) k in
       by-test (Told image at) (nameOk (part image (at + 9) len)) _ _
-      (λ g. record { moves = omega arith; inside = omega arith; formed = λ _. simp (e, le-leb _ _ l, g); not-idmp = not-one op name e (λ z. omega arith) })
+      (λ g. record { moves = omega arith; inside = omega arith; name-inside = omega arith; formed = λ _. simp (e, le-leb _ _ l, g); not-idmp = not-one op name e (λ z. omega arith) })
       (λ _. (lit≤ tt, lit≤ tt))))
 
   operand-told : (f : Form) → formOf op ≡ f → at < length image → Told image at (readOperand image at op f)
   unfolding readOperand wellFormed fits numberOf
   operand-told none e h =
-      record { moves = lit≤ tt; inside = omega arith; formed = λ _. simp e; not-idmp = not-one op none e (λ z. omega arith) }
+      record { moves = lit≤ tt; inside = omega arith; name-inside = omega arith; formed = λ _. simp e; not-idmp = not-one op none e (λ z. omega arith) }
   operand-told eight e h =
       by-test (Told image at) (ltb (length image) (at + 9)) _ _ (λ _. (lit≤ tt, lit≤ tt))
-      (λ k. record { moves = lit≤ tt; inside = ltb-false _ _ k; formed = λ _. simp e; not-idmp = not-one op eight e (λ z. omega arith) })
+      (λ k. record { moves = lit≤ tt; inside = ltb-false _ _ k; name-inside = omega arith; formed = λ _. simp e; not-idmp = not-one op eight e (λ z. omega arith) })
   operand-told one e h =
       by-test (Told image at) (ltb (length image) (at + 2)) _ _ (λ _. (lit≤ tt, lit≤ tt))
-      (λ k. record { moves = lit≤ tt; inside = ltb-false _ _ k; formed = λ b. let l : getD image (at + 1) 0 ≤ 255 = omega (arith, b (at + 1)) in simp (read-as op e .0, le-leb _ _ l); not-idmp = read-as op e .1 })
+      (λ k. record { moves = lit≤ tt; inside = ltb-false _ _ k; name-inside = omega arith; formed = λ b. let l : getD image (at + 1) 0 ≤ 255 = omega (arith, b (at + 1)) in simp (read-as op e .0, le-leb _ _ l); not-idmp = read-as op e .1 })
   operand-told name e h =
       by-test (Told image at) (ltb (length image) (at + 9)) _ _ (λ _. (lit≤ tt, lit≤ tt))
       (λ k. named-told (word image (at + 1)) e (ltb-false _ _ k))

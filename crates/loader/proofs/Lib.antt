@@ -1,0 +1,10 @@
+pub mod Left
+mod Names
+mod Scans
+mod Instructions
+mod Rests
+mod Ends
+mod Loads
+mod Stores
+mod Fillings
+mod Underway

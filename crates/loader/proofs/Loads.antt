@@ -1,0 +1,97 @@
+-- What the definition of a load says of its answers. Assumes nothing.
+use Prim.Native.Nat.{ℕ, _<_, _≤_}
+use mathlib.Core.Path.{_≡_, refl, ap, sym, _∙_}
+use mathlib.Core.Bool.{Bool, true, false, cond, _||_}
+use mathlib.Core.List.{List, []}
+use native.Mathlib.Omega.{arith}
+use lib.Dec.{ltb}
+use lib.ListN.{length}
+use borrow.Author.Tests.{lt-ltb, le-ltb, ltb-false}
+use Rattle.inst.specs.declared.Inst.{Inst}
+use Rattle.inst.proofs.Laws.{by-test}
+use Rattle.machine.specs.Limits.{imageLimit, instLimit}
+use Rattle.machine.specs.declared.Label.{Label}
+use Rattle.machine.specs.declared.Machine.{Machine}
+use Rattle.machine.specs.Load.{Scan, Scanned, stops, goes, begin, scan, Entry, noEntry, entry, anyNative, closed, Loaded, Load, rejects, accepts, checked, entered, finished, loads, load, fresh, countOf}
+use Rattle.loader.specs.declared.Loading.the-variants.{Refused, Accepted}
+use Rattle.loader.specs.Loading.{Answer, refuses, starts, answerOf, freshAt, means}
+use Rattle.loader.specs.Reading.{entryOf}
+use Rattle.loader.specs.Filling.{Rest}
+
+-- no refusal is an acceptance
+pub never-both : {A : Type 0} (n : ℕ) (l : Loaded) → rejects n ≡ accepts l → A
+never-both n l e = absurd (let z : _≡_ {A = ℕ} 0 1 = cc in omega arith)
+
+-- 10, or what the image gives
+module _ (image : List ℕ) (is : List Inst) (ls : List Label) where
+  pub few-insts : length is < 4096 → load image is ls ≡ rejects 10
+  unfolding load
+  few-insts h = simp (lt-ltb _ _ h)
+
+  pub few-labels : 4096 ≤ length is → length ls < 513 → load image is ls ≡ rejects 10
+  unfolding load
+  few-labels h k = simp (le-ltb _ _ h, lt-ltb _ _ k)
+
+  pub enough : 4096 ≤ length is → 513 ≤ length ls → load image is ls ≡ loads image
+  unfolding load
+  enough h k = simp (le-ltb _ _ h, le-ltb _ _ k)
+
+-- by the code's answer
+pub refused-load : (n : ℕ) (l : Load) → means (Refused n) ≡ answerOf l → l ≡ rejects n
+unfolding means answerOf
+refused-load n (rejects m) e = cc
+refused-load n (accepts l) e = cc
+
+pub record IsAccepted (ip count : ℕ) (x : Load) : Type 0 where
+  pub loaded : Loaded
+  pub is : x ≡ accepts loaded
+  pub ip-is : ip ≡ loaded .ip
+  pub count-is : count ≡ countOf loaded
+
+pub accepted-load : (ip count : ℕ) (x : Load) → means (Accepted ip count) ≡ answerOf x → IsAccepted ip count x
+unfolding means answerOf freshAt fresh
+accepted-load ip count (rejects n) e = absurd (let z : _≡_ {A = ℕ} 0 1 = cc in omega arith)
+accepted-load ip count (accepts l) e =
+    let m : freshAt ip ≡ fresh l = cc in
+    record { loaded = l; is = refl; ip-is = ap (λ (x : Machine). x .ip) m; count-is = cc }
+
+-- an accepted scan
+pub record Closed (s : Scan) (l : Loaded) : Type 0 where
+  pub insts-are : l .insts ≡ closed (s .insts)
+  pub labels-are : l .labels ≡ s .labels
+  pub fits : countOf l ≤ instLimit
+
+checked-closed : (s : Scan) (m l : Loaded) → m .insts ≡ closed (s .insts) → m .labels ≡ s .labels → checked m ≡ accepts l → Closed s l
+unfolding checked
+checked-closed s m l a b =
+    by-test (λ x. x ≡ accepts l → Closed s l) (ltb instLimit (length (m .insts))) _ _ (λ _. never-both 5 l)
+    (λ h. by-test (λ x. x ≡ accepts l → Closed s l) (anyNative (m .insts)) _ _ (λ _. never-both 8 l)
+    (λ _ q. let e : m ≡ l = cc in rw (← e) (record { insts-are = a; labels-are = b; fits = ltb-false _ _ h })))
+
+module _ (image : List ℕ) (l : Loaded) where
+  entered-closed : (s : Scan) (e : Entry) → entered s e ≡ accepts l → Closed s l
+  unfolding entered
+  entered-closed s noEntry q = never-both 7 l q
+  entered-closed s (entry t) q = checked-closed s _ l refl refl q
+
+  pub is-closed : (s : Scan) → finished image (goes s) ≡ accepts l → Closed s l
+  unfolding finished
+  is-closed s q = entered-closed s (entryOf image s) q
+
+  not-finished : (n : ℕ) → finished image (stops n) ≡ accepts l → rejects n ≡ accepts l
+  unfolding finished
+  not-finished n q = q
+
+  scanned-fits : (x : Scanned) → finished image x ≡ accepts l → countOf l ≤ instLimit
+  scanned-fits (stops n) q = never-both n l (not-finished n q)
+  scanned-fits (goes s) q = is-closed s q .fits
+
+  -- an accepted image is short enough, and its scan gives what it loads to
+  pub accepted-rest : loads image ≡ accepts l → Rest image begin (accepts l)
+  unfolding loads
+  accepted-rest =
+      by-test (λ x. x ≡ accepts l → Rest image begin (accepts l)) (ltb imageLimit (length image)) _ _ (λ _. never-both 1 l)
+      (λ _ q. record { fuel = length image; enough = omega arith; gives = q })
+
+  pub accepted-fits : loads image ≡ accepts l → countOf l ≤ instLimit
+  accepted-fits e = let r = accepted-rest e in scanned-fits _ (r .gives)

@@ -1,0 +1,67 @@
+-- `loader::checking::check` meets its contract. Assumes nothing.
+use Prim.Native.Nat.{_-_}
+use mathlib.Core.Path.{ap, sym, _∙_}
+use native.Mathlib.Omega.{arith}
+use lib.ListN.{length}
+use borrow.Author.Needs.{needs}
+use borrow.Author.Tests.{lt-ltb}
+use Rattle.machine.specs.Load.{loads}
+use Rattle.loader.specs.Loading.{means, answerOf}
+use Rattle.loader.proofs.Rests.{Checking, checking-begins, checking-next, refuses-there, ends-there, loads-is, further}
+use Rattle.loader.proofs.checking.check.Statement.{statement}
+use Rattle.loader.proofs.checking.check.Tie as tie
+
+abbrev Inv-loop : tie.InvT-loop
+Inv-loop image c₀ c = Checking image c
+
+abbrev μ-loop : tie.MeasureT-loop
+μ-loop image c₀ c = length image - c .at
+
+returns : tie.Need-returns Inv-loop μ-loop
+unfolding means answerOf loads
+returns c = simp (lt-ltb _ _ (c .if1 .taken))
+
+loop-holds : tie.Need-loop-holds Inv-loop μ-loop
+loop-holds c = checking-begins _ _ (c .first .ensures _)
+
+returns-2 : tie.Need-returns-2 Inv-loop μ-loop
+unfolding means answerOf
+returns-2 c =
+    let k = c .before .before .before .before .before .before .loop .inv in
+    rw (loads-is _ (c .before .before .before .before .before .before .before .before .if1 .left)) (ap answerOf (refuses-there _ _ _ (k .reached) (k .counts-are) (k .has-head) (k .rest) (c .before .before .before .before .if2 .taken) _ (sym (c .before .did .given .1) ∙ c .before .before .before .next-inst .ensures .0 (k .reached) (k .has-head) (k .counts-are))))
+
+loop-less : tie.Need-loop-less Inv-loop μ-loop
+loop-less c =
+    let f = further _ _ _ _ _ (c .before .before .before .next-inst .ensures .1) (c .before .did2 .given .1) in
+    omega (arith, f .moves, f .inside)
+
+loop-again : tie.Need-loop-again Inv-loop μ-loop
+loop-again c =
+    let k = c .before .before .before .before .before .before .loop .inv in
+    checking-next _ _ k (c .before .before .before .before .if2 .taken) _ _ (further _ _ _ _ _ (c .before .before .before .next-inst .ensures .1) (c .before .did2 .given .1)) (sym (c .before .did2 .given .1) ∙ c .before .before .before .next-inst .ensures .0 (k .reached) (k .has-head) (k .counts-are))
+
+judge-requires : tie.Need-judge-requires Inv-loop μ-loop
+judge-requires c κs = c .before .before .loop .inv .fit
+
+returns-3 : tie.Need-returns-3 Inv-loop μ-loop
+returns-3 c =
+    let k = c .before .before .before .loop .inv in
+    rw (loads-is _ (c .before .before .before .before .before .if1 .left)) (c .judge .ensures _ (k .reached) (k .counts-are) ∙ ap answerOf (ends-there _ _ _ (k .reached) (k .counts-are) (k .rest) (c .before .if2 .left)))
+
+pub check-spec : {M : Type 1} → statement M
+check-spec =
+    tie.close
+    (tie.spec
+    Inv-loop
+    μ-loop
+    returns
+    (λ c κs. search needs)
+    loop-holds
+    (λ c κs. search needs)
+    (λ c. search needs)
+    returns-2
+    (λ c. search needs)
+    loop-less
+    loop-again
+    judge-requires
+    returns-3)

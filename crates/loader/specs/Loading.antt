@@ -1,0 +1,51 @@
+-- What the call answers and leaves, by the load of document 01.
+use Prim.Native.Nat.{ℕ}
+use mathlib.Core.Path.{_≡_}
+use mathlib.Core.List.{List, []}
+use lib.Seq.{sets}
+use Rattle.machine.specs.declared.Machine.{Machine}
+use Rattle.machine.specs.Load.{Load, rejects, accepts, load, fresh, countOf}
+use Rattle.tables.specs.Tables.{instsOf, labelsOf, numbersOf, instNumbers, labelNumbers}
+use Rattle.loader.specs.declared.Loading.{Loading}
+use Rattle.loader.specs.declared.Loading.the-variants.{Refused, Accepted}
+
+-- the answer: a number, or the fresh machine and the count
+pub data Answer : Type 0 where
+  refuses : ℕ → Answer
+  starts : Machine → ℕ → Answer
+
+unfoldable pub answerOf : Load → Answer
+answerOf (rejects n) = refuses n
+answerOf (accepts l) = starts (fresh l) (countOf l)
+
+-- a fresh machine has its pointer from the image, and nothing else
+unfoldable pub freshAt : ℕ → Machine
+freshAt ip = fresh (record { insts = []; labels = []; ip = ip })
+
+-- the number or the values of each case of the code's answer
+unfoldable pub means : Loading → Answer
+means (Refused n) = refuses n
+means (Accepted ip count) = starts (freshAt ip) count
+
+unfoldable pub numberIn : Answer → ℕ
+numberIn (refuses n) = n
+numberIn (starts m count) = 0
+
+-- a lent table's numbers after the call: a refusal writes nothing; the records from the front on, what is past them as it was
+unfoldable pub instsLeft : Load → List ℕ → List ℕ
+instsLeft (rejects n) insts = insts
+instsLeft (accepts l) insts = sets insts 0 (numbersOf instNumbers (l .insts))
+
+unfoldable pub labelsLeft : Load → List ℕ → List ℕ
+labelsLeft (rejects n) labels = labels
+labelsLeft (accepts l) labels = sets labels 0 (numbersOf labelNumbers (l .labels))
+
+-- the load of document 01 with tables that are lent as numbers
+abbrev pub loadOf : List ℕ → List ℕ → List ℕ → Load
+loadOf image insts labels = load image (instsOf insts) (labelsOf labels)
+
+-- what a call answers and leaves in the two tables
+pub record FromBinary (image insts labels : List ℕ) (r : Loading) (insts′ labels′ : List ℕ) : Type 0 where
+  pub answers : means r ≡ answerOf (loadOf image insts labels)
+  pub insts-are : insts′ ≡ instsLeft (loadOf image insts labels) insts
+  pub labels-are : labels′ ≡ labelsLeft (loadOf image insts labels) labels

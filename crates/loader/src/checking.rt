@@ -1,0 +1,77 @@
+// The first pass: every refusal, the pointer and the count. It writes nothing.
+ghost use mathlib.Core.Path.{_≡_};
+ghost use mathlib.Core.Bool.{cond};
+ghost use mathlib.Core.List.{List};
+ghost use Prim.Native.Nat.{ℕ, _+_, _≤_};
+ghost use Rattle.machine.specs.Load.{Scan, begin, goes, loads, finished};
+ghost use Rattle.loader.specs.Reading.{countsOf};
+ghost use Rattle.loader.specs.Loading.{answerOf, means};
+use crate::Counts;
+use crate::IMAGE_LIMIT;
+use crate::INST_LIMIT;
+use crate::Loading;
+use crate::Next;
+use crate::reading::next_inst;
+
+// Before the first instruction: the label table has its head.
+pub fn first() -> Counts
+    ensures { λ r. ⌜ ((image : List ℕ) → r ≡ countsOf image begin) ⌝ }
+{
+    Counts {
+        at: 0,
+        insts: 0,
+        labels: 1,
+        found: false,
+        ip: 0,
+        native: false,
+        halt: false,
+    }
+}
+
+// The instructions with an appended HALT.
+fn closed_count(insts: usize, halt: bool) -> usize
+    requires { ⌜ insts ≤ 4096 ⌝ }
+    ensures { λ r. ⌜ r ≡ cond halt insts (insts + 1) ⌝ }
+{
+    if halt { insts } else { insts + 1 }
+}
+
+// After the last byte: 7; HALT is appended unless the last instruction is HALT, 5 again; 8.
+fn judge(c: Counts) -> Loading
+    requires { ⌜ c .insts ≤ 4096 ⌝ }
+    ensures { λ r. ⌜ ((image : List ℕ) (s : Scan) → c ≡ countsOf image s → means r ≡ answerOf (finished image (goes s))) ⌝ }
+{
+    if !c.found {
+        return Loading::Refused(7);
+    }
+    let count = closed_count(c.insts, c.halt);
+    if count > INST_LIMIT {
+        return Loading::Refused(5);
+    }
+    if c.native {
+        return Loading::Refused(8);
+    }
+    Loading::Accepted(c.ip, count)
+}
+
+// What an image gives, whatever tables are lent.
+pub fn check(image: &[u8]) -> Loading
+    ensures { λ r. ⌜ means r ≡ answerOf (loads (now (image .entry))) ⌝ }
+{
+    if image.len() > IMAGE_LIMIT {
+        return Loading::Refused(1);
+    }
+    let mut c = first();
+    while c.at < image.len() {
+        let did = next_inst(image, c);
+        match did {
+            Next::Refused(n) => {
+                return Loading::Refused(n);
+            }
+            Next::Read(d, _) => {
+                c = d;
+            }
+        }
+    }
+    judge(c)
+}

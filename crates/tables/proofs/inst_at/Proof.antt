@@ -1,0 +1,28 @@
+-- `tables::inst_at` meets its contract. Assumes nothing.
+use mathlib.Core.Path.{sym}
+use Rattle.tables.specs.Tables.{inst}
+use Rattle.tables.proofs.Laws.{record-at}
+use borrow.Author.Needs.{needs}
+use Rattle.tables.proofs.inst_at.Statement.{statement}
+use Rattle.tables.proofs.inst_at.Tie as tie
+
+returns : tie.Need-returns
+returns c d = let s = c .before .before .before .before in sym (record-at inst (s .args .insts .now) (s .args .i) d (s .pre))
+
+pub inst-at-spec : {M : Type 1} → statement M
+inst-at-spec =
+    tie.close
+    (tie.spec
+    (λ c. search needs)
+    (λ c. search needs)
+    (λ c. search needs)
+    (λ c. search needs)
+    (λ c. search needs)
+    (λ c. search needs)
+    (λ c. search needs)
+    (λ c. search needs)
+    (λ c. search needs)
+    (λ c. search needs)
+    (λ c. search needs)
+    (λ c. search needs)
+    returns)

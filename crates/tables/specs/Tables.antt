@@ -1,0 +1,43 @@
+-- A lent table: a number slice read as a list of records, four numbers a record. One to three numbers left over at its end belong to no record.
+use Prim.Native.Nat.{ℕ}
+use mathlib.Core.List.{List, [], _∷_, _++_}
+use Rattle.inst.specs.declared.Inst.{Inst}
+use Rattle.machine.specs.declared.Label.{Label}
+use Rattle.machine.specs.Lookup.{Program}
+
+-- the records that `make` makes of each four numbers, in order
+unfoldable pub recordsOf : {A : Type 0} → (ℕ → ℕ → ℕ → ℕ → A) → List ℕ → List A
+recordsOf make [] = []
+recordsOf make (a ∷ []) = []
+recordsOf make (a ∷ b ∷ []) = []
+recordsOf make (a ∷ b ∷ c ∷ []) = []
+recordsOf make (a ∷ b ∷ c ∷ d ∷ xs) = make a b c d ∷ recordsOf make xs
+
+-- an instruction's record: first byte, cell or number or stream, name start and length
+abbrev pub inst : ℕ → ℕ → ℕ → ℕ → Inst
+inst a b c d = record { typ = a; val = b; start = c; len = d }
+
+-- a label's record: name start and length, target, next index
+abbrev pub label : ℕ → ℕ → ℕ → ℕ → Label
+label a b c d = record { start = a; len = b; target = c; next = d }
+
+abbrev pub instsOf : List ℕ → List Inst
+instsOf xs = recordsOf inst xs
+
+abbrev pub labelsOf : List ℕ → List Label
+labelsOf xs = recordsOf label xs
+
+-- what a run is lent
+abbrev pub program : List ℕ → List ℕ → List ℕ → ℕ → Program
+program image insts labels count = record { image = image; insts = instsOf insts; labels = labelsOf labels; count = count }
+
+-- and back: the numbers of records, one record after the other
+unfoldable pub numbersOf : {A : Type 0} → (A → List ℕ) → List A → List ℕ
+numbersOf four [] = []
+numbersOf four (r ∷ rs) = four r ++ numbersOf four rs
+
+abbrev pub instNumbers : Inst → List ℕ
+instNumbers i = i .typ ∷ i .val ∷ i .start ∷ i .len ∷ []
+
+abbrev pub labelNumbers : Label → List ℕ
+labelNumbers l = l .start ∷ l .len ∷ l .target ∷ l .next ∷ []
