@@ -1,0 +1,87 @@
+-- The encoder's answer by its tests. Assumes nothing.
+use Prim.Native.Nat.{ℕ, _+_, _<_, _≤_}
+use mathlib.Core.Path.{_≡_, refl}
+use mathlib.Core.Bool.{Bool, true, false, cond, _&&_, and-false}
+use mathlib.Core.List.{List}
+use native.Mathlib.Omega.{arith}
+use lib.Dec.{leb}
+use lib.ListN.{length, take}
+use borrow.Author.Tests.{leb-true, leb-false, le-leb, lt-leb}
+use Rattle.inst.specs.declared.Inst.{Inst}
+use Rattle.inst.proofs.Laws.{and-left, and-right}
+use Rattle.machine.specs.Encode.{allWellFormed, bytesOfAll, unencoded, encoded, encode}
+use Rattle.encoder.specs.Encoder.{sized}
+
+other : {A : Type 0} (m n : ℕ) → unencoded m ≡ encoded n → A
+other m n e = let z : _≡_ {A = ℕ} 0 1 = cc in absurd (omega arith)
+
+-- by the room
+module _ (n room : ℕ) where
+  pub sized-fits : n ≤ room → sized n room ≡ encoded n
+  unfolding sized
+  sized-fits h = rw (le-leb n room h)
+
+  pub sized-long : room < n → sized n room ≡ unencoded 10
+  unfolding sized
+  sized-long h = rw (lt-leb n room h)
+
+  fits-by : (b : Bool) (m : ℕ) → leb n room ≡ b → encoded m ≡ cond b (encoded n) (unencoded 10) → (m ≡ n) × (n ≤ room)
+  fits-by true m e h = (cc, leb-true n room e)
+  fits-by false m e h = other 10 m (cc)
+
+  pub fits-back : (m : ℕ) → encoded m ≡ sized n room → (m ≡ n) × (n ≤ room)
+  unfolding sized
+  fits-back m h = fits-by (leb n room) m refl h
+
+  long-by : (b : Bool) (m : ℕ) → leb n room ≡ b → unencoded m ≡ cond b (encoded n) (unencoded 10) → (m ≡ 10) × (room < n)
+  long-by true m e h = other m n h
+  long-by false m e h = (cc, leb-false n room e)
+
+  pub long-back : (m : ℕ) → unencoded m ≡ sized n room → (m ≡ 10) × (room < n)
+  unfolding sized
+  long-back m h = long-by (leb n room) m refl h
+
+-- by the room, with `len` bytes more
+module _ (m n len room : ℕ) where
+  pub added-none : unencoded m ≡ sized n room → unencoded m ≡ sized (n + len) room
+  added-none h = let b = long-back n room m h in rw (b .0, sized-long (n + len) room (omega arith))
+
+  pub added-long : encoded m ≡ sized n room → room < m + len → unencoded 10 ≡ sized (n + len) room
+  added-long h l = let b = fits-back n room m h in rw (sized-long (n + len) room (omega arith))
+
+  pub added-fits : encoded m ≡ sized n room → m + len ≤ room → encoded (m + len) ≡ sized (n + len) room
+  added-fits h l = let b = fits-back n room m h in rw (b .0, sized-fits (n + len) room (omega arith))
+
+-- 9, then by the room
+module _ (image : List ℕ) (is : List Inst) (count : ℕ) (out : List ℕ) where
+  abbrev pub size : ℕ
+  size = length (bytesOfAll image (take count is))
+
+  pub past : length is < count → encode image is count out ≡ unencoded 9
+  unfolding encode
+  past h = rw (lt-leb count (length is) h)
+
+  pub ill : allWellFormed image (take count is) ≡ false → encode image is count out ≡ unencoded 9
+  unfolding encode
+  ill h = rw (h, and-false)
+
+  pub whole : count ≤ length is → allWellFormed image (take count is) ≡ true → encode image is count out ≡ sized size (length out)
+  unfolding encode sized
+  whole h w = rw (le-leb count (length is) h, w)
+
+  -- what is written may be written
+  pub record Accepted : Type 0 where
+    pub within : count ≤ length is
+    pub well : allWellFormed image (take count is) ≡ true
+    pub fits : size ≤ length out
+
+  accepted-by : (b : Bool) (n : ℕ) → (leb count (length is) && allWellFormed image (take count is)) ≡ b
+      → encoded n ≡ cond b (cond (leb size (length out)) (encoded size) (unencoded 10)) (unencoded 9) → Accepted
+  unfolding sized
+  accepted-by true n e h =
+      record { within = leb-true _ _ (and-left _ _ e); well = and-right (leb count (length is)) _ e; fits = fits-back size (length out) n h .1 }
+  accepted-by false n e h = other 9 n (cc)
+
+  pub accepted : (n : ℕ) → encoded n ≡ encode image is count out → Accepted
+  unfolding encode
+  accepted n h = accepted-by (leb count (length is) && allWellFormed image (take count is)) n refl h

@@ -1,0 +1,41 @@
+-- `encoder::to_binary` meets its contract. Assumes nothing.
+use mathlib.Core.Path.{refl, _∙_}
+use Rattle.machine.specs.Encode.{outputAfter}
+use Rattle.encoder.specs.Encoder.{means}
+use Rattle.encoder.proofs.Answers.{accepted}
+use borrow.Author.Needs.{needs}
+use Rattle.encoder.proofs.to_binary.Statement.{statement}
+use Rattle.encoder.proofs.to_binary.Tie as tie
+
+returns : tie.Need-returns
+unfolding means outputAfter
+returns c =
+    let h = c .before .before .check .ensures _ refl in
+    (h, rw (← h, c .enum-told .given .1))
+
+write-requires : tie.Need-write-requires
+unfolding means
+write-requires c κs =
+    let s = c .before .before .before .before .before .before .before .before in
+    let h = rw (c .before .before .answer .given .1) at (c .before .before .before .before .check .ensures (s .args .out .now) refl) in
+    let a = accepted _ _ _ _ _ h in
+    (a .within, (a .well, a .fits))
+
+returns-2 : tie.Need-returns-2
+unfolding means outputAfter
+returns-2 c =
+    let s = c .before .before .before .before .before .before .before .before .before .before .before in
+    let h = rw (c .before .before .before .before .before .answer .given .1) at (c .before .before .before .before .before .before .before .check .ensures (s .args .out .now) refl) in
+    (h, c .before .before .write .ensures ∙ rw (← h))
+
+pub to-binary-spec : {M : Type 1} → statement M
+to-binary-spec =
+    tie.close
+    (tie.spec
+    (λ c κs. search needs)
+    (λ c. search needs)
+    (λ c. search needs)
+    returns
+    write-requires
+    (λ c. search needs)
+    returns-2)
