@@ -4,14 +4,14 @@ use mathlib.Core.Path.{_≡_, refl, ap, sym, _∙_}
 use mathlib.Core.Bool.{Bool, true, false, cond, not, _||_}
 use mathlib.Core.List.{List, [], _∷_, _++_}
 use native.Mathlib.Omega.{arith}
-use lib.Dec.{ltb}
 use lib.ListN.{length, length-append}
 use borrow.Author.Tests.{lt-ltb, le-ltb}
 use Rattle.inst.specs.declared.Inst.{Inst}
-use Rattle.machine.specs.Load.{halt, Scan, goes, Entry, noEntry, entry, anyNative, lastIsHalt, closed, Loaded, Load, rejects, accepts, checked, entered, finished, fresh, countOf}
+use Rattle.machine.specs.Limits.{instLimit}
+use Rattle.machine.specs.Load.{halt, Scan, goes, Entry, noEntry, entry, anyNative, lastIsHalt, closed, rejects, checked, entered, finished, fresh}
 use Rattle.loader.specs.declared.Counts.{Counts}
 use Rattle.loader.specs.declared.Loading.the-variants.{Refused, Accepted}
-use Rattle.loader.specs.Loading.{Answer, refuses, starts, answerOf, freshAt, means}
+use Rattle.loader.specs.Loading.{answerOf, freshAt, means}
 use Rattle.loader.specs.Reading.{isFound, pointer, entryOf, countsOf}
 use Rattle.loader.proofs.Scans.{snoc-native}
 
@@ -86,14 +86,14 @@ module _ (image : List ℕ) (c : Counts) (s : Scan) (e : c ≡ countsOf image s)
     count-is : count ≡ length (closed (s .insts))
     count-is = k ∙ long-is
 
-    pub too-many : 4096 < count → means (Refused 5) ≡ answerOf (finished image (goes s))
+    pub too-many : instLimit < count → means (Refused 5) ≡ answerOf (finished image (goes s))
     unfolding checked answerOf means
     too-many l = rw there (simp (lt-ltb _ _ (rw count-is at l)))
 
-    pub has-native : count ≤ 4096 → c .native ≡ true → means (Refused 8) ≡ answerOf (finished image (goes s))
+    pub has-native : count ≤ instLimit → c .native ≡ true → means (Refused 8) ≡ answerOf (finished image (goes s))
     unfolding checked answerOf means
     has-native l n = rw there (simp (le-ltb _ _ (rw count-is at l), sym native-is ∙ n))
 
-    pub accepted-there : count ≤ 4096 → c .native ≡ false → means (Accepted (c .ip) count) ≡ answerOf (finished image (goes s))
+    pub accepted-there : count ≤ instLimit → c .native ≡ false → means (Accepted (c .ip) count) ≡ answerOf (finished image (goes s))
     unfolding checked answerOf means freshAt fresh
     accepted-there l n = rw there (simp (le-ltb _ _ (rw count-is at l), sym native-is ∙ n, ip-is, count-is))

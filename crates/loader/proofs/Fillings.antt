@@ -1,10 +1,10 @@
 -- What holds while the instructions of an accepted image are filled in, up to the next label. Assumes nothing.
-use Prim.Native.Nat.{ℕ, suc, _+_, _*_, _-_, _<_, _≤_}
-use mathlib.Core.Path.{_≡_, refl, ap, sym, _∙_, subst}
-use mathlib.Core.Bool.{Bool, true, false, cond}
-use mathlib.Core.List.{List, [], _∷_, _++_}
+use Prim.Native.Nat.{ℕ, _*_, _<_, _≤_}
+use mathlib.Core.Path.{_≡_, refl, ap, sym, _∙_}
+use mathlib.Core.Bool.{cond}
+use mathlib.Core.List.{List, [], _∷_}
 use native.Mathlib.Omega.{arith}
-use lib.Dec.{eqb, ltb}
+use lib.Dec.{ltb}
 use lib.ListN.{length}
 use lib.Seq.{sets}
 use borrow.Author.Tests.{eq-eqb, ne-eqb}
@@ -12,26 +12,17 @@ use Rattle.inst.specs.declared.Inst.{Inst}
 use Rattle.inst_decode.specs.Decode.{fromBytes}
 use Rattle.inst.proofs.Laws.{never}
 use Rattle.machine.specs.declared.Label.{Label}
-use Rattle.machine.specs.Load.{isLabel, linked, Scan, goes, scanOne, closed, Loaded, Load, accepts, finished, countOf}
+use Rattle.machine.specs.Load.{halt, linked, Scan, scanOne, closed, Loaded, accepts}
 use Rattle.tables.specs.Tables.{numbersOf, instNumbers}
 use Rattle.loader.specs.declared.Counts.{Counts}
 use Rattle.loader.specs.declared.Pending.{Pending}
 use Rattle.loader.specs.declared.Next.{Next}
 use Rattle.loader.specs.declared.Next.the-variants.{Refused, Read}
 use Rattle.loader.specs.Reading.{countsOf, nextOf, Further}
-use Rattle.loader.specs.Filling.{linkedOn, Rest, Answers, Paused, HasInsts, Stops, Ends, StopsOrEnds, left, Fills}
+use Rattle.loader.specs.Filling.{linkedOn, pausedAt, endedAt, Rest, Answers, Paused, HasInsts, StopsOrEnds, left, Fills}
 use Rattle.loader.proofs.Rests.{Passes, passes, refuses-there, ends-there}
-use Rattle.loader.proofs.Loads.{never-both, Closed, is-closed}
+use Rattle.loader.proofs.Loads.{never-both, is-closed}
 use Rattle.loader.proofs.Stores.{inst-more, halt-more}
-
--- the code's answers: stopped at the label i, or at the end
-abbrev pub pausedAt : Pending → Counts → Counts → Inst → Pending
-pausedAt p c d i =
-    record { on = true; accepted = p .accepted; number = p .number; ip = p .ip; count = p .count; counts = d; index = c .labels; start = i .start; len = i .len; target = c .insts }
-
-abbrev pub endedAt : Pending → Pending
-endedAt p =
-    record { on = false; accepted = p .accepted; number = p .number; ip = p .ip; count = p .count; counts = p .counts; index = p .index; start = p .start; len = p .len; target = p .target }
 
 -- read up to `to`, with no label behind s, and all of it stored
 pub record Reached (image xs : List ℕ) (l : Loaded) (s : Scan) (c : Counts) (insts : List ℕ) : Type 0 where
@@ -68,7 +59,7 @@ module _ (image insts₀ : List ℕ) (p : Pending) where
   module _ (c : Counts) (insts : List ℕ) (f : Leads image insts₀ p c insts) where
     -- at the image's end
     pub fills-end : length image ≤ c .at → (insts′ : List ℕ)
-        → insts′ ≡ cond (ltb (c .insts) (p .count)) (sets insts (c .insts * 4) (69 ∷ 0 ∷ 0 ∷ 0 ∷ [])) insts → (q : Pending) → q ≡ endedAt p → Fills image insts₀ p q insts′
+        → insts′ ≡ cond (ltb (c .insts) (p .count)) (sets insts (c .insts * 4) (instNumbers halt)) insts → (q : Pending) → q ≡ endedAt p → Fills image insts₀ p q insts′
     unfolding left StopsOrEnds
     fills-end h insts′ t q e =
         rw e (record {
@@ -82,7 +73,7 @@ module _ (image insts₀ : List ℕ) (p : Pending) where
                 record { accepted-is = a .accepted-is; ip-is = a .ip-is; count-is = a .count-is },
                 record {
                   all-insts = t
-                      ∙ ap (λ (m : ℕ). cond (ltb (c .insts) m) (sets insts (c .insts * 4) (69 ∷ 0 ∷ 0 ∷ 0 ∷ [])) insts) n
+                      ∙ ap (λ (m : ℕ). cond (ltb (c .insts) m) (sets insts (c .insts * 4) (instNumbers halt)) insts) n
                       ∙ halt-more xs insts (r .to .insts) (c .insts) (insts-of image c (r .to) (r .counts-are)) (r .has-insts)
                       ∙ ap (λ (is : List Inst). sets xs 0 (numbersOf instNumbers is)) (sym (k .insts-are));
                   all-labels = sym (k .labels-are ∙ r .labels-same);

@@ -14,8 +14,9 @@ use Rattle.inst_decode.specs.declared.Decoded.{Decoded}
 use Rattle.inst_decode.specs.declared.Decoded.the-variants as D
 use Rattle.inst_decode.specs.Decode.{refused, reads, means, fromBytes}
 use Rattle.inst_decode.proofs.Decoded.{the-type}
-use Rattle.inst_decode.proofs.Facts.{ReadIn, read-in}
-use Rattle.machine.specs.Load.{isLabel, same, startName, linked, Scan, scanOne}
+use Rattle.inst_decode.proofs.Facts.{read-in}
+use Rattle.machine.specs.Limits.{instLimit, labelRecords}
+use Rattle.machine.specs.Load.{same, startName, linked, Scan, scanOne}
 use Rattle.loader.specs.declared.Counts.{Counts}
 use Rattle.loader.specs.declared.Next.the-variants.{Refused, Read}
 use Rattle.loader.specs.Reading.{numberIn, countsOf, counted, labelled, nextOf, Further}
@@ -51,19 +52,19 @@ module _ (image : List ℕ) (c : Counts) (s : Scan) (e : c ≡ countsOf image s)
     read-is : fromBytes image (s .at) ≡ reads i size
     read-is = ap (fromBytes image) (sym at-is) ∙ f
 
-    pub next-five : 4096 ≤ c .insts → Refused 5 ≡ nextOf image (scanOne s (fromBytes image (s .at)))
+    pub next-five : instLimit ≤ c .insts → Refused 5 ≡ nextOf image (scanOne s (fromBytes image (s .at)))
     unfolding nextOf scanOne
-    next-five h = simp (read-is, le-leb 4096 (length (s .insts)) (rw insts-is at h))
+    next-five h = simp (read-is, le-leb instLimit (length (s .insts)) (rw insts-is at h))
 
-    pub next-six : c .insts < 4096 → i .typ ≡ 21 → 513 ≤ c .labels → Refused 6 ≡ nextOf image (scanOne s (fromBytes image (s .at)))
+    pub next-six : c .insts < instLimit → i .typ ≡ 21 → labelRecords ≤ c .labels → Refused 6 ≡ nextOf image (scanOne s (fromBytes image (s .at)))
     unfolding nextOf scanOne
     next-six h k l =
-        simp (read-is, lt-leb 4096 (length (s .insts)) (rw insts-is at h), eq-eqb _ _ k, le-leb 513 (length (s .labels)) (rw labels-is at l))
+        simp (read-is, lt-leb instLimit (length (s .insts)) (rw insts-is at h), eq-eqb _ _ k, le-leb labelRecords (length (s .labels)) (rw labels-is at l))
 
-    pub next-plain : c .insts < 4096 → (i .typ ≡ 21 → ⊥) → Read (counted c (i .typ) size) i ≡ nextOf image (scanOne s (fromBytes image (s .at)))
+    pub next-plain : c .insts < instLimit → (i .typ ≡ 21 → ⊥) → Read (counted c (i .typ) size) i ≡ nextOf image (scanOne s (fromBytes image (s .at)))
     unfolding nextOf scanOne
     next-plain h k =
-        simp (read-is, lt-leb 4096 (length (s .insts)) (rw insts-is at h), ne-eqb _ _ k, counts-plain, snoc-last, e)
+        simp (read-is, lt-leb instLimit (length (s .insts)) (rw insts-is at h), ne-eqb _ _ k, counts-plain, snoc-last, e)
 
     label-kept : 0 < length (s .labels)
         → labelled (counted c (i .typ) size) (same startName (part image (i .start) (i .len))) (c .insts)
@@ -73,21 +74,21 @@ module _ (image : List ℕ) (c : Counts) (s : Scan) (e : c ≡ countsOf image s)
         ap (λ (x : Counts). labelled (counted x (i .typ) size) (same startName (part image (i .start) (i .len))) (x .insts)) e
         ∙ sym (counts-label image (s .at) (s .insts) (s .labels) i size z)
 
-    pub next-label : 0 < length (s .labels) → c .insts < 4096 → i .typ ≡ 21 → c .labels < 513
+    pub next-label : 0 < length (s .labels) → c .insts < instLimit → i .typ ≡ 21 → c .labels < labelRecords
         → Read (labelled (counted c (i .typ) size) (same startName (part image (i .start) (i .len))) (c .insts)) i ≡ nextOf image (scanOne s (fromBytes image (s .at)))
     unfolding nextOf scanOne
     next-label z h k l =
-        simp (read-is, lt-leb 4096 (length (s .insts)) (rw insts-is at h), eq-eqb _ _ k, lt-leb 513 (length (s .labels)) (rw labels-is at l), snoc-last)
+        simp (read-is, lt-leb instLimit (length (s .insts)) (rw insts-is at h), eq-eqb _ _ k, lt-leb labelRecords (length (s .labels)) (rw labels-is at l), snoc-last)
         (ap (λ (x : Counts). Read x i) (label-kept z))
 
 -- the bounds
-module _ (image : List ℕ) (c : Counts) (i : Inst) (size : ℕ) (f : fromBytes image (c .at) ≡ reads i size) (h : c .insts < 4096) where
+module _ (image : List ℕ) (c : Counts) (i : Inst) (size : ℕ) (f : fromBytes image (c .at) ≡ reads i size) (h : c .insts < instLimit) where
   pub further-plain : (i .typ ≡ 21 → ⊥) → Further (length image) c (counted c (i .typ) size) i
   further-plain k =
       let r = read-in image (c .at) i size f in
       record { inside = r .inside; moves = omega (arith, r .moves); one-more = refl; insts-fit = omega arith; labels-fit = λ b. absurd (k (eqb-true _ _ b)) }
 
-  pub further-label : (b : _) → c .labels < 513 → Further (length image) c (labelled (counted c (i .typ) size) b (c .insts)) i
+  pub further-label : (b : _) → c .labels < labelRecords → Further (length image) c (labelled (counted c (i .typ) size) b (c .insts)) i
   further-label b l =
       let r = read-in image (c .at) i size f in
       record { inside = r .inside; moves = omega (arith, r .moves); one-more = refl; insts-fit = omega arith; labels-fit = λ _. l }

@@ -1,20 +1,19 @@
 -- What the definition of a load says of its answers. Assumes nothing.
 use Prim.Native.Nat.{ℕ, _<_, _≤_}
-use mathlib.Core.Path.{_≡_, refl, ap, sym, _∙_}
-use mathlib.Core.Bool.{Bool, true, false, cond, _||_}
-use mathlib.Core.List.{List, []}
+use mathlib.Core.Path.{_≡_, refl, ap}
+use mathlib.Core.List.{List}
 use native.Mathlib.Omega.{arith}
 use lib.Dec.{ltb}
 use lib.ListN.{length}
 use borrow.Author.Tests.{lt-ltb, le-ltb, ltb-false}
 use Rattle.inst.specs.declared.Inst.{Inst}
 use Rattle.inst.proofs.Laws.{by-test}
-use Rattle.machine.specs.Limits.{imageLimit, instLimit}
+use Rattle.machine.specs.Limits.{imageLimit, instLimit, labelRecords}
 use Rattle.machine.specs.declared.Label.{Label}
 use Rattle.machine.specs.declared.Machine.{Machine}
 use Rattle.machine.specs.Load.{Scan, Scanned, stops, goes, begin, scan, Entry, noEntry, entry, anyNative, closed, Loaded, Load, rejects, accepts, checked, entered, finished, loads, load, fresh, countOf}
 use Rattle.loader.specs.declared.Loading.the-variants.{Refused, Accepted}
-use Rattle.loader.specs.Loading.{Answer, refuses, starts, answerOf, freshAt, means}
+use Rattle.loader.specs.Loading.{answerOf, freshAt, means}
 use Rattle.loader.specs.Reading.{entryOf}
 use Rattle.loader.specs.Filling.{Rest}
 
@@ -24,15 +23,15 @@ never-both n l e = absurd (let z : _≡_ {A = ℕ} 0 1 = cc in omega arith)
 
 -- 10, or what the image gives
 module _ (image : List ℕ) (is : List Inst) (ls : List Label) where
-  pub few-insts : length is < 4096 → load image is ls ≡ rejects 10
+  pub few-insts : length is < instLimit → load image is ls ≡ rejects 10
   unfolding load
   few-insts h = simp (lt-ltb _ _ h)
 
-  pub few-labels : 4096 ≤ length is → length ls < 513 → load image is ls ≡ rejects 10
+  pub few-labels : instLimit ≤ length is → length ls < labelRecords → load image is ls ≡ rejects 10
   unfolding load
   few-labels h k = simp (le-ltb _ _ h, lt-ltb _ _ k)
 
-  pub enough : 4096 ≤ length is → 513 ≤ length ls → load image is ls ≡ loads image
+  pub enough : instLimit ≤ length is → labelRecords ≤ length ls → load image is ls ≡ loads image
   unfolding load
   enough h k = simp (le-ltb _ _ h, le-ltb _ _ k)
 

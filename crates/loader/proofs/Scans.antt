@@ -1,19 +1,16 @@
 -- What one instruction more does to a scan, and to what the code keeps of it. Assumes nothing.
-use Prim.Native.Nat.{ℕ, suc, _+_, _<_, _≤_}
-use mathlib.Core.Path.{_≡_, refl, ap, sym, _∙_}
+use Prim.Native.Nat.{ℕ, _+_, _<_}
+use mathlib.Core.Path.{_≡_, refl}
 use mathlib.Core.Bool.{Bool, true, false, cond, _||_}
 use mathlib.Core.List.{List, [], _∷_, _++_}
-use native.Mathlib.Numerals.{add-one}
 use native.Mathlib.Nat.{suc-add}
 use native.Mathlib.Omega.{arith}
-use lib.Dec.{eqb}
-use lib.ListN.{length, drop, length-append}
+use lib.ListN.{length, length-append}
 use Rattle.inst.specs.declared.Inst.{Inst}
 use Rattle.inst.specs.Records.{part}
 use Rattle.machine.specs.declared.Label.{Label}
-use Rattle.machine.specs.Load.{isLabel, isNative, isHalt, same, nameOf, startName, head, linked, Scan, Entry, noEntry, entry, lastOf, anyNative, lastIsHalt}
-use Rattle.loader.specs.declared.Counts.{Counts}
-use Rattle.loader.specs.Reading.{isFound, pointer, entryOf, countsOf, counted, labelled, lastInst}
+use Rattle.machine.specs.Load.{isNative, isHalt, same, nameOf, startName, linked, Scan, Entry, noEntry, entry, lastOf, anyNative, lastIsHalt}
+use Rattle.loader.specs.Reading.{isFound, pointer, countsOf, counted, labelled, lastInst}
 
 or-assoc : (a b c : Bool) → (a || (b || c)) ≡ ((a || b) || c)
 or-assoc true b c = refl

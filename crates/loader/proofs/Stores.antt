@@ -1,21 +1,18 @@
 -- Records stored into a table's numbers. Assumes nothing.
 use Prim.Native.Nat.{ℕ, suc, _+_, _*_, _<_, _≤_}
-use mathlib.Core.Path.{_≡_, refl, ap, sym, _∙_}
+use mathlib.Core.Path.{_≡_, ap, sym, _∙_}
 use mathlib.Core.Bool.{Bool, true, false, cond}
 use mathlib.Core.List.{List, [], _∷_, _++_}
-use native.Mathlib.Numerals.{add-one}
-use native.Mathlib.Nat.{zero-add}
 use native.Mathlib.Omega.{arith}
 use lib.Dec.{ltb}
 use lib.ListN.{length, getD, length-append}
 use lib.Seq.{sets, length-sets}
 use borrow.Author.Tests.{lt-ltb, le-ltb}
 use Rattle.inst.specs.declared.Inst.{Inst}
-use Rattle.inst.specs.Records.{named}
 use Rattle.inst.proofs.Laws.{sets-more}
 use Rattle.machine.specs.declared.Label.{Label}
 use Rattle.machine.specs.Load.{halt, head, linked, lastIsHalt, closed}
-use Rattle.tables.specs.Tables.{inst, label, numbersOf, instNumbers, labelNumbers}
+use Rattle.tables.specs.Tables.{label, numbersOf, instNumbers, labelNumbers}
 use Rattle.tables.proofs.Laws.{insts-append, labels-append, length-insts, length-labels, sets-rest}
 use Rattle.loader.specs.declared.Pending.{Pending}
 use Rattle.loader.specs.Filling.{linkedAt, linkedOn}
@@ -39,11 +36,11 @@ inst-more xs ys is i n m e =
 
 -- HALT, where it is appended
 pub halt-more : (xs ys : List ℕ) (is : List Inst) (n : ℕ) → n ≡ length is → ys ≡ sets xs 0 (numbersOf instNumbers is)
-    → cond (ltb n (length (closed is))) (sets ys (n * 4) (69 ∷ 0 ∷ 0 ∷ 0 ∷ [])) ys ≡ sets xs 0 (numbersOf instNumbers (closed is))
+    → cond (ltb n (length (closed is))) (sets ys (n * 4) (instNumbers halt)) ys ≡ sets xs 0 (numbersOf instNumbers (closed is))
 unfolding closed
 halt-more xs ys is n m e = by-halt (lastIsHalt is)
   where
-    by-halt : (b : Bool) → cond (ltb n (length (cond b is (is ++ (halt ∷ []))))) (sets ys (n * 4) (69 ∷ 0 ∷ 0 ∷ 0 ∷ [])) ys ≡ sets xs 0 (numbersOf instNumbers (cond b is (is ++ (halt ∷ []))))
+    by-halt : (b : Bool) → cond (ltb n (length (cond b is (is ++ (halt ∷ []))))) (sets ys (n * 4) (instNumbers halt)) ys ≡ sets xs 0 (numbersOf instNumbers (cond b is (is ++ (halt ∷ []))))
     by-halt true = let h : length is ≤ n = omega arith in simp (le-ltb _ _ h) e
     by-halt false =
         let h : n < length (is ++ (halt ∷ [])) = rw length-append (omega arith) in

@@ -1,21 +1,21 @@
 -- What holds while a load is under way: the whole call. Assumes nothing.
-use Prim.Native.Nat.{ℕ, suc, _+_, _*_, _-_, _/_, _<_, _≤_}
+use Prim.Native.Nat.{ℕ, _/_, _<_, _≤_}
 use mathlib.Core.Path.{_≡_, refl, ap, sym, _∙_, subst}
 use mathlib.Core.Bool.{Bool, true, false, cond}
-use mathlib.Core.List.{List, [], _∷_, _++_}
+use mathlib.Core.List.{List, []}
 use native.Mathlib.Omega.{arith}
 use lib.ListN.{length}
 use lib.Seq.{sets}
 use Rattle.inst.proofs.Laws.{never}
 use Rattle.machine.specs.Limits.{instLimit, labelRecords}
 use Rattle.machine.specs.declared.Label.{Label}
-use Rattle.machine.specs.Load.{Scan, begin, Loaded, Load, rejects, accepts, load, fresh, countOf}
+use Rattle.machine.specs.Load.{Scan, begin, Loaded, Load, rejects, accepts, load, fresh}
 use Rattle.tables.specs.Tables.{inst, label, instsOf, labelsOf, numbersOf, instNumbers, labelNumbers}
 use Rattle.tables.proofs.Laws.{length-records}
 use Rattle.loader.specs.declared.Pending.{Pending}
 use Rattle.loader.specs.declared.Loading.{Loading}
-use Rattle.loader.specs.Loading.{Answer, refuses, starts, answerOf, freshAt, means, instsLeft, labelsLeft, loadOf, FromBinary}
-use Rattle.loader.specs.Filling.{linkedAt, Answers, Paused, HasInsts, Stops, Ends, StopsOrEnds, Begins, left, Fills}
+use Rattle.loader.specs.Loading.{refuses, starts, answerOf, freshAt, means, instsLeft, labelsLeft, loadOf, FromBinary}
+use Rattle.loader.specs.Filling.{linkedAt, Answers, Paused, HasInsts, StopsOrEnds, Begins, Fills}
 use Rattle.loader.proofs.Stores.{label-more}
 
 module _ (image insts₀ labels₀ : List ℕ) where

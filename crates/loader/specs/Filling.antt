@@ -1,15 +1,17 @@
--- What holds while the tables of an accepted image are filled.
+-- What holds while the tables of an accepted image are filled: the contracts of the functions below from_binary.
 use Prim.Native.Nat.{ℕ, suc, _+_, _*_, _-_, _≤_, _<_}
 use mathlib.Core.Path.{_≡_}
-use mathlib.Core.Bool.{Bool, true, false, cond}
+use mathlib.Core.Bool.{Bool, true, false}
 use mathlib.Core.List.{List, [], _∷_}
 use lib.ListN.{length, getD}
 use lib.Seq.{sets}
+use Rattle.inst.specs.declared.Inst.{Inst}
 use Rattle.inst.specs.Records.{named}
-use Rattle.machine.specs.Limits.{instLimit, labelRecords}
+use Rattle.machine.specs.Limits.{labelRecords}
 use Rattle.machine.specs.declared.Label.{Label}
 use Rattle.machine.specs.Load.{head, linked, Scan, begin, scan, Loaded, Load, rejects, accepts, finished, countOf}
-use Rattle.tables.specs.Tables.{numbersOf, instNumbers, labelNumbers}
+use Rattle.tables.specs.Tables.{numbersOf, instNumbers}
+use Rattle.loader.specs.declared.Counts.{Counts}
 use Rattle.loader.specs.declared.Pending.{Pending}
 use Rattle.loader.specs.Reading.{countsOf}
 
@@ -22,6 +24,37 @@ linkedAt labels index start len target =
 unfoldable pub linkedOn : Pending → List Label → List Label
 linkedOn p [] = head 0 ∷ []
 linkedOn p (h ∷ ls) = linked (named 21 (p .start) (p .len)) (p .target) (h ∷ ls)
+
+-- the code's states: at the label i, before which it kept c, and d behind it; and at the end
+abbrev pub pausedAt : Pending → Counts → Counts → Inst → Pending
+pausedAt p c d i =
+    record {
+      on = true;
+      accepted = p .accepted;
+      number = p .number;
+      ip = p .ip;
+      count = p .count;
+      counts = d;
+      index = c .labels;
+      start = i .start;
+      len = i .len;
+      target = c .insts;
+    }
+
+abbrev pub endedAt : Pending → Pending
+endedAt p =
+    record {
+      on = false;
+      accepted = p .accepted;
+      number = p .number;
+      ip = p .ip;
+      count = p .count;
+      counts = p .counts;
+      index = p .index;
+      start = p .start;
+      len = p .len;
+      target = p .target;
+    }
 
 -- the image from s on gives l
 pub record Rest (image : List ℕ) (s : Scan) (l : Load) : Type 0 where

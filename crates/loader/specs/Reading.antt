@@ -1,4 +1,4 @@
--- What the code keeps of a scan, and its answer for one instruction more.
+-- What the code keeps of document 01's scan, and its answer for one instruction more.
 use Prim.Native.Nat.{ℕ, _+_, _≤_, _<_}
 use mathlib.Core.Path.{_≡_}
 use mathlib.Core.Bool.{Bool, true, false, cond, _||_}

@@ -3,7 +3,8 @@ ghost use mathlib.Core.Path.{_≡_};
 ghost use mathlib.Core.Bool.{cond};
 ghost use mathlib.Core.List.{List};
 ghost use Prim.Native.Nat.{ℕ, _+_, _≤_};
-ghost use Rattle.machine.specs.Load.{Scan, begin, goes, loads, finished};
+ghost use Rattle.machine.specs.Limits.{instLimit};
+ghost use Rattle.machine.specs.Load.{Scan, goes, loads, finished};
 ghost use Rattle.loader.specs.Reading.{countsOf};
 ghost use Rattle.loader.specs.Loading.{answerOf, means};
 use crate::Counts;
@@ -11,26 +12,12 @@ use crate::IMAGE_LIMIT;
 use crate::INST_LIMIT;
 use crate::Loading;
 use crate::Next;
+use crate::reading::first;
 use crate::reading::next_inst;
-
-// Before the first instruction: the label table has its head.
-pub fn first() -> Counts
-    ensures { λ r. ⌜ ((image : List ℕ) → r ≡ countsOf image begin) ⌝ }
-{
-    Counts {
-        at: 0,
-        insts: 0,
-        labels: 1,
-        found: false,
-        ip: 0,
-        native: false,
-        halt: false,
-    }
-}
 
 // The instructions with an appended HALT.
 fn closed_count(insts: usize, halt: bool) -> usize
-    requires { ⌜ insts ≤ 4096 ⌝ }
+    requires { ⌜ insts ≤ instLimit ⌝ }
     ensures { λ r. ⌜ r ≡ cond halt insts (insts + 1) ⌝ }
 {
     if halt { insts } else { insts + 1 }
@@ -38,7 +25,7 @@ fn closed_count(insts: usize, halt: bool) -> usize
 
 // After the last byte: 7; HALT is appended unless the last instruction is HALT, 5 again; 8.
 fn judge(c: Counts) -> Loading
-    requires { ⌜ c .insts ≤ 4096 ⌝ }
+    requires { ⌜ c .insts ≤ instLimit ⌝ }
     ensures { λ r. ⌜ ((image : List ℕ) (s : Scan) → c ≡ countsOf image s → means r ≡ answerOf (finished image (goes s))) ⌝ }
 {
     if !c.found {

@@ -2,7 +2,7 @@
 // `link` and its caller hold the label table.
 ghost use mathlib.Core.Path.{_≡_};
 ghost use mathlib.Core.Bool.{true, false, cond};
-ghost use mathlib.Core.List.{List, [], _∷_};
+ghost use mathlib.Core.List.{List};
 ghost use Prim.Native.Nat.{_+_, _*_, _≤_, _<_};
 ghost use lib.ListN.{length};
 ghost use lib.Seq.{sets};
@@ -10,9 +10,10 @@ ghost use lib.Dec.{ltb};
 ghost use Rattle.inst.specs.declared.Inst.{Inst};
 ghost use Rattle.machine.specs.declared.Label.{Label};
 ghost use Rattle.machine.specs.Limits.{instLimit, labelRecords};
-ghost use Rattle.machine.specs.Load.{load};
+ghost use Rattle.machine.specs.Load.{halt, load};
+ghost use Rattle.tables.specs.Tables.{instNumbers};
 ghost use Rattle.loader.specs.Loading.{means, numberIn, refuses, starts, freshAt};
-ghost use Rattle.loader.specs.Filling.{linkedAt, Begins, Fills};
+ghost use Rattle.loader.specs.Filling.{linkedAt, pausedAt, endedAt, Begins, Fills};
 use crate::Counts;
 use crate::HALT;
 use crate::INST_LIMIT;
@@ -22,12 +23,12 @@ use crate::Loading;
 use crate::Next;
 use crate::Pending;
 use crate::checking::check;
-use crate::checking::first;
+use crate::reading::first;
 use crate::reading::next_inst;
 use inst::Inst;
 use tables::put;
 
-// A label record, linked first. Index 0 makes the head itself, zero.
+// A label record, linked first: it leads to what the head led to, and the head to it. Index 0 makes the head itself, zero.
 pub fn link(labels: &mut [u64], index: usize, start: u64, len: u64, target: u64)
     requires { ⌜ index * 4 + 4 ≤ length (now labels) ⌝ }
     ensures { λ _. ⌜ now (labels .exit) ≡ linkedAt (now (labels .entry)) index start len target ⌝ }
@@ -97,7 +98,7 @@ pub fn begin(image: &[u8], insts: usize, labels: usize) -> Pending
 // HALT behind the instructions, where the first pass counted it.
 fn close(insts: &mut [u64], index: usize, count: usize)
     requires { ⌜ count * 4 ≤ length (now insts) ⌝ }
-    ensures { λ _. ⌜ now (insts .exit) ≡ cond (ltb index count) (sets (now (insts .entry)) (index * 4) (69 ∷ 0 ∷ 0 ∷ 0 ∷ [])) (now (insts .entry)) ⌝ }
+    ensures { λ _. ⌜ now (insts .exit) ≡ cond (ltb index count) (sets (now (insts .entry)) (index * 4) (instNumbers halt)) (now (insts .entry)) ⌝ }
 {
     if index < count {
         put(insts, index, HALT, 0, 0, 0);
@@ -106,7 +107,7 @@ fn close(insts: &mut [u64], index: usize, count: usize)
 
 // Up to the LABEL i, at which c was kept before and d behind it: its record is to be linked.
 fn paused(p: Pending, c: Counts, d: Counts, i: Inst) -> Pending
-    ensures { λ r. ⌜ r ≡ record { on = true; accepted = p .accepted; number = p .number; ip = p .ip; count = p .count; counts = d; index = c .labels; start = i .start; len = i .len; target = c .insts } ⌝ }
+    ensures { λ r. ⌜ r ≡ pausedAt p c d i ⌝ }
 {
     Pending {
         on: true,
@@ -124,7 +125,7 @@ fn paused(p: Pending, c: Counts, d: Counts, i: Inst) -> Pending
 
 // Nothing is left to link.
 fn ended(p: Pending) -> Pending
-    ensures { λ r. ⌜ r ≡ record { on = false; accepted = p .accepted; number = p .number; ip = p .ip; count = p .count; counts = p .counts; index = p .index; start = p .start; len = p .len; target = p .target } ⌝ }
+    ensures { λ r. ⌜ r ≡ endedAt p ⌝ }
 {
     let counts = p.counts;
     Pending {

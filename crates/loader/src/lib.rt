@@ -16,6 +16,7 @@ use filling::link;
 use inst::Inst;
 use machine::Machine;
 pub use reading::next_inst;
+use tables::RECORD;
 
 // The limits of document 01: an image's bytes, its instructions, and the records of a label table.
 pub const IMAGE_LIMIT: usize = 16384;
@@ -25,11 +26,11 @@ pub const INST_LIMIT: usize = 4096;
 pub const LABEL_RECORDS: usize = 513;
 
 // First bytes that the loader looks for.
-pub const LABEL: u64 = 21;
+const LABEL: u64 = 21;
 
-pub const NATIVE: u64 = 37;
+const NATIVE: u64 = 37;
 
-pub const HALT: u64 = 69;
+const HALT: u64 = 69;
 
 // What a load answers: a number, or the pointer and the count. `fresh` makes the machine of the pointer: an enum that holds
 // the machine's arrays can't be proved from its code.
@@ -57,7 +58,7 @@ pub enum Next {
 }
 
 // A load that is under way: the answer; what was read and filled; and, where it is on, the label record that is to be linked.
-pub struct Pending {
+struct Pending {
     pub on: bool,
     pub accepted: bool,
     pub number: u8,
@@ -90,7 +91,7 @@ pub fn fresh(ip: usize) -> Machine
 pub fn from_binary(image: &[u8], insts: &mut [u64], labels: &mut [u64]) -> Loading
     ensures { λ r. ⌜ FromBinary (now (image .entry)) (now (insts .entry)) (now (labels .entry)) r (now (insts .exit)) (now (labels .exit)) ⌝ }
 {
-    let mut p = begin(image, insts.len() / 4, labels.len() / 4);
+    let mut p = begin(image, insts.len() / RECORD, labels.len() / RECORD);
     while p.on {
         link(labels, p.index, p.start, p.len, p.target);
         p = fill(image, insts, p);

@@ -1,12 +1,13 @@
 // Reading an image instruction by instruction.
 ghost use mathlib.Core.Path.{_≡_};
 ghost use mathlib.Core.Bool.{_||_, cond};
-ghost use Prim.Native.Nat.{_+_, _^_, _≤_, _<_};
+ghost use mathlib.Core.List.{List};
+ghost use Prim.Native.Nat.{ℕ, _+_, _^_, _≤_, _<_};
 ghost use lib.ListN.{length};
-ghost use lib.Dec.{eqb};
 ghost use Rattle.inst.specs.Records.{part};
 ghost use Rattle.inst_decode.specs.Decode.{means, fromBytes};
-ghost use Rattle.machine.specs.Load.{same, startName, Scan, scanOne};
+ghost use Rattle.machine.specs.Limits.{instLimit, labelRecords};
+ghost use Rattle.machine.specs.Load.{same, startName, Scan, begin, scanOne};
 ghost use Rattle.loader.specs.Reading.{countsOf, nextOf, Ahead};
 ghost use Rattle.loader.specs.Reading as paper;
 use crate::Counts;
@@ -18,6 +19,21 @@ use crate::NATIVE;
 use crate::Next;
 use inst_decode::Decoded;
 use inst_decode::from_bytes;
+
+// Before the first instruction: the label table has its head.
+pub fn first() -> Counts
+    ensures { λ r. ⌜ ((image : List ℕ) → r ≡ countsOf image begin) ⌝ }
+{
+    Counts {
+        at: 0,
+        insts: 0,
+        labels: 1,
+        found: false,
+        ip: 0,
+        native: false,
+        halt: false,
+    }
+}
 
 // The number of a refusal.
 fn number(d: Decoded) -> u8
@@ -32,7 +48,7 @@ fn number(d: Decoded) -> u8
 }
 
 // Whether two names are the same bytes.
-pub fn same_name(a: &[u8], b: &[u8]) -> bool
+fn same_name(a: &[u8], b: &[u8]) -> bool
     ensures { λ r. ⌜ r ≡ same (now (a .entry)) (now (b .entry)) ⌝ }
 {
     if a.len() != b.len() {
@@ -72,7 +88,7 @@ fn either(a: bool, b: bool) -> bool
 
 // An instruction more, whatever it is.
 fn counted(c: Counts, typ: u64, size: usize) -> Counts
-    requires { ⌜ c .insts < 4096 ⌝ }
+    requires { ⌜ c .insts < instLimit ⌝ }
     requires { ⌜ c .at + size < 2 ^ 64 ⌝ }
     ensures { λ r. ⌜ r ≡ paper.counted c typ size ⌝ }
 {
@@ -89,7 +105,7 @@ fn counted(c: Counts, typ: u64, size: usize) -> Counts
 
 // A label record more. `start` says whether it defines `_start`, with the target `index`.
 fn labelled(c: Counts, start: bool, index: usize) -> Counts
-    requires { ⌜ c .labels < 513 ⌝ }
+    requires { ⌜ c .labels < labelRecords ⌝ }
     ensures { λ r. ⌜ r ≡ paper.labelled c start index ⌝ }
 {
     Counts {
@@ -103,7 +119,8 @@ fn labelled(c: Counts, start: bool, index: usize) -> Counts
     }
 }
 
-// One instruction more: 2, 3 or 4, then 5, 6.
+// One instruction more: 2, 3 or 4, then 5, 6. The answer is that of whatever scan the counts stand for: only our own crates
+// call it, with counts that stand for one.
 pub fn next_inst(image: &[u8], c: Counts) -> Next
     ensures { λ r. ⌜ ((s : Scan) → 0 < length (s .labels) → c ≡ countsOf (now (image .entry)) s → r ≡ nextOf (now (image .entry)) (scanOne s (fromBytes (now (image .entry)) (s .at)))) ⌝ }
     ensures { λ r. ⌜ Ahead (length (now (image .entry))) c r ⌝ }

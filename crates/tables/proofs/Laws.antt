@@ -4,7 +4,7 @@ use mathlib.Core.Path.{_≡_, refl, ap, sym, _∙_}
 use mathlib.Core.List.{List, [], _∷_, _++_}
 use native.Mathlib.Nat.{suc-add}
 use native.Mathlib.Omega.{arith}
-use lib.ListN.{length, getD, set, length-append}
+use lib.ListN.{length, getD, set}
 use lib.Seq.{sets, length-sets}
 use Rattle.inst.specs.declared.Inst.{Inst}
 use Rattle.machine.specs.declared.Label.{Label}

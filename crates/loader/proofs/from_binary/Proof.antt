@@ -1,5 +1,4 @@
 -- `loader::from_binary` meets its contract. Assumes nothing.
-use mathlib.Core.Path.{_≡_}
 use native.Mathlib.Omega.{arith}
 use lib.ListN.{length}
 use borrow.Author.Needs.{needs}

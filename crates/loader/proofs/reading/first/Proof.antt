@@ -1,9 +1,9 @@
--- `loader::checking::first` meets its contract. Assumes nothing.
+-- `loader::reading::first` meets its contract. Assumes nothing.
 use mathlib.Core.Path.{refl}
 use Rattle.machine.specs.Load.{lastOf, anyNative, lastIsHalt}
 use Rattle.loader.specs.Reading.{countsOf, isFound, pointer}
-use Rattle.loader.proofs.checking.first.Statement.{statement}
-use Rattle.loader.proofs.checking.first.Tie as tie
+use Rattle.loader.proofs.reading.first.Statement.{statement}
+use Rattle.loader.proofs.reading.first.Tie as tie
 
 returns : tie.Need-returns
 unfolding countsOf lastOf anyNative lastIsHalt isFound pointer
