@@ -56,10 +56,21 @@ Otherwise (Halt n) P = P
 Otherwise (Trap n t) P = P
 Otherwise Ill P = P
 
--- the answer r does to the machine of c and these arrays what the instruction i does, whatever the flags; s' and so on are left
+-- P holds where the step may not be taken: 34, and a dump, which 33 refuses
+abbrev pub Untaken : Executed → Type 0 → Type 0
+Untaken (Next n) P = Unit
+Untaken (Compared n g) P = Unit
+Untaken (Dump n x) P = P
+Untaken (Halt n) P = Unit
+Untaken (Trap n t) P = Unit
+Untaken Ill P = P
+
+-- the answer r does to the machine of c and these arrays what the instruction i does, whatever the flags; s' and so on are left. Where no step
+-- is taken they are as before
 pub record Does (i : Machine → Stepped) (c : Core) (s ca me : List ℕ) (r : Executed) (s' ca' me' : List ℕ) : Type 0 where
   pub does : (f : ℕ) → means f r s' ca' me' ≡ i (whole c f s ca me false)
   pub small : Small r
+  pub kept : Untaken r ((s' ≡ s) × (ca' ≡ ca) × (me' ≡ me))
 
 -- and whatever isn't success has changed none of the arrays
 pub record Acts (i : Machine → Stepped) (c : Core) (s ca me : List ℕ) (r : Executed) (s' ca' me' : List ℕ) : Type 0 where

@@ -1,0 +1,5 @@
+pub mod Courses
+pub mod Following
+pub mod Running
+pub mod Loop
+pub mod Edges

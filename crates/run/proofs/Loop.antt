@@ -1,0 +1,182 @@
+-- The loop of `steps`: what it keeps, and how it ends. Assumes nothing.
+use Prim.Native.Nat.{ℕ, _≤_, _<_, _-_, _+_, _^_}
+use mathlib.Core.Path.{_≡_, refl, _∙_, sym, ap}
+use mathlib.Core.Bool.{Bool, true, false, cond}
+use mathlib.Core.List.{List}
+use native.Mathlib.Omega.{arith}
+use lib.Dec.{eqb}
+use lib.ListN.{length}
+use borrow.Author.Tests.{eq-eqb, ne-eqb}
+use Rattle.inst.specs.Records.{nameIn}
+use Rattle.inst.proofs.Laws.{never}
+use Rattle.machine.specs.declared.Label.{Label}
+use Rattle.machine.specs.Lookup.{lookup}
+use Rattle.machine.specs.Run.{Course}
+use Rattle.tables.specs.Tables.{instsOf}
+use Rattle.step_core.specs.declared.Core.{Core}
+use Rattle.step_core.specs.Parts.{whole, Inside, foundOf}
+use Rattle.lookup.specs.Walks.{lent}
+use Rattle.quick.specs.declared.Reached.{Reached}
+use Rattle.quick.specs.Known.{instOf, Listed}
+use Rattle.quick.specs.Courses as quick
+use Rattle.step.specs.declared.Tried.{Tried}
+use Rattle.step.specs.declared.Tried.the-variants.{Done, Asks}
+use Rattle.step.specs.Steps.{Told, Sized, Tries}
+use Rattle.run.specs.declared.progress.Progress.{Progress}
+use Rattle.run.specs.declared.progress.Turn.{Turn}
+use Rattle.run.specs.declared.progress.Turn.the-variants.{Go, End}
+use Rattle.run.specs.Turns.{FollowsTry, ending}
+use Rattle.run.specs.Runs.{Running, Stands, weight, Advances}
+use Rattle.run.proofs.Running.{is-over, known-on, went, ended-by, stands-over}
+
+-- the weight that a run has at first, with what was found
+abbrev first : ℕ → ℕ → ℕ
+first left asked = left + cond (eqb asked 0) 2 1
+
+-- From c₀, f₀ and so on, at which `asked` was found, the loop has come to c, f and so on. Whatever the labels are: if the run stood there, it stands here
+pub record Loops (image xs : List ℕ) (count : ℕ) (c₀ : Core) (f₀ left₀ n₀ asked : ℕ) (b₀ keys₀ targets₀ s₀ ca₀ me₀ : List ℕ)
+    (c : Core) (f left n found : ℕ) (b keys targets s ca me : List ℕ) : Type 0 where
+  pub fits : count + 3 < 2 ^ 64
+  pub small : Inside c
+  pub filled : n ≤ length b
+  pub long : length b ≡ length b₀
+  pub sized : Sized keys targets
+  pub listed : Listed xs keys targets
+  pub fewer : left ≤ left₀
+  pub lighter : found ≡ 0 → left + 1 < first left₀ asked
+  pub runs : (labels : List Label) (buffer : List ℕ) (limit : ℕ) (run : Course) →
+      Running (lent image (instsOf xs) labels count) xs buffer limit run c₀ f₀ left₀ n₀ b₀ keys₀ targets₀ s₀ ca₀ me₀ →
+      Told (lent image (instsOf xs) labels count) xs (c₀ .ip) asked →
+      Running (lent image (instsOf xs) labels count) xs buffer limit run c f left n b keys targets s ca me × Told (lent image (instsOf xs) labels count) xs (c .ip) found
+
+-- it ended with r
+pub record Stops (image xs : List ℕ) (count : ℕ) (c₀ : Core) (f₀ left₀ n₀ asked : ℕ) (b₀ keys₀ targets₀ s₀ ca₀ me₀ : List ℕ)
+    (r : Progress) (b keys targets s ca me : List ℕ) : Type 0 where
+  pub stops : (labels : List Label) (buffer : List ℕ) (limit : ℕ) (run : Course) →
+      Running (lent image (instsOf xs) labels count) xs buffer limit run c₀ f₀ left₀ n₀ b₀ keys₀ targets₀ s₀ ca₀ me₀ →
+      Told (lent image (instsOf xs) labels count) xs (c₀ .ip) asked →
+      Stands (lent image (instsOf xs) labels count) xs buffer limit run r b keys targets s ca me
+      × (r .on ≡ true → (nameIn image (r .start) (r .len) ≡ true) × (r .left + 1 < first left₀ asked))
+
+not-go : {on : Core} {g n : ℕ} {o : Progress} → Go on g n ≡ End o → ⊥
+not-go e = let z : _≡_ {A = ℕ} 0 1 = cc in omega arith
+
+end-of : {o o' : Progress} → End o ≡ End o' → o ≡ o'
+end-of {o} {o'} e = ap of e
+  where
+    of : Turn → Progress
+    of (End x) = x
+    of (Go c g n) = o
+
+-- what a turn's answer says
+module _ {c : Core} {f left n : ℕ} {b b' : List ℕ} where
+  pub go-small : (t : Tried) {on : Core} {g n' : ℕ} → FollowsTry t c f left n b b' (Go on g n') → Inside on
+  go-small (Done a) q = q .followed .followed .1
+  go-small (Asks start len) q = absurd (not-go (q .followed .0))
+
+  pub end-long : (t : Tried) {o : Progress} → FollowsTry t c f left n b b' (End o) → length b' ≡ length b
+  end-long (Done a) q = q .followed .followed .3 .long
+  end-long (Asks start len) q = ap length (q .followed .1)
+
+module _ {image xs : List ℕ} {count : ℕ} where
+  pub loop-starts : (c : Core) (f left n asked : ℕ) (b keys targets s ca me : List ℕ) → count + 3 < 2 ^ 64 → Inside c → n ≤ length b → Sized keys targets →
+      Listed xs keys targets →
+      Loops image xs count c f left n asked b keys targets s ca me c f left n asked b keys targets s ca me
+  loop-starts c f left n asked b keys targets s ca me fits small filled sized listed =
+      record {
+        fits = fits;
+        small = small;
+        filled = filled;
+        long = refl;
+        sized = sized;
+        listed = listed;
+        fewer = omega arith;
+        lighter = λ z. rw (eq-eqb asked 0 z) (omega arith);
+        runs = λ labels buffer limit run r told. (r, told);
+      }
+
+  module _ {c₀ : Core} {f₀ left₀ n₀ asked : ℕ} {b₀ keys₀ targets₀ s₀ ca₀ me₀ : List ℕ} {c : Core} {f left n found : ℕ} {b keys targets s ca me : List ℕ}
+      (inv : Loops image xs count c₀ f₀ left₀ n₀ asked b₀ keys₀ targets₀ s₀ ca₀ me₀ c f left n found b keys targets s ca me) where
+    some-weight : left < first left₀ asked
+    some-weight = by (eqb asked 0)
+      where
+        by : (x : Bool) → left < left₀ + cond x 2 1
+        by true = omega (arith, inv .fewer)
+        by false = omega (arith, inv .fewer)
+
+    -- no step is left
+    pub loop-over : left ≡ 0 → Stops image xs count c₀ f₀ left₀ n₀ asked b₀ keys₀ targets₀ s₀ ca₀ me₀ (ending c f 0 n 1 0) b keys targets s ca me
+    loop-over z =
+        record { stops = λ labels buffer limit run r told. (stands-over keys targets refl (is-over (inv .runs labels buffer limit run r told .0) z), λ e. never e) }
+
+    module _ (l : 0 < left) {keys' targets' s' ca' me' b' : List ℕ} where
+      -- a step, and the known ones behind it
+      pub loop-on : (t : Tried) {on : Core} {g n' : ℕ} {r : Reached} {s2 ca2 me2 : List ℕ} →
+          Tries image xs count c f found keys targets s ca me t keys' targets' s' ca' me' → FollowsTry t c f left n b b' (Go on g n') →
+          quick.Leads xs keys' targets' (whole on g s' ca' me' false) (left - 1) r s2 ca2 me2 →
+          Loops image xs count c₀ f₀ left₀ n₀ asked b₀ keys₀ targets₀ s₀ ca₀ me₀ (r .core) (r .flags) (r .left) n' 0 b' keys' targets' s2 ca2 me2
+      loop-on (Asks start len) tries q k = absurd (not-go (q .followed .0))
+      loop-on (Done a) tries q k =
+          let fills = q .followed .followed .2 in
+          record {
+            fits = inv .fits;
+            small = k .small;
+            filled = omega (arith, fills .filled, fills .long);
+            long = fills .long ∙ inv .long;
+            sized = tries .sized;
+            listed = tries .listed;
+            fewer = omega (arith, k .fewer, inv .fewer);
+            lighter = λ z. omega (arith, k .fewer, some-weight);
+            runs = λ labels buffer limit run r told.
+                let now = inv .runs labels buffer limit run r told in
+                let made = tries .tried labels (now .1) in
+                (known-on (went (now .0) l (made .0) (tries .sized) (made .1) (q .followed)) k, λ some. absurd (omega arith));
+          }
+
+      -- a step, and the end; or a question
+      pub loop-stops : (t : Tried) {o : Progress} →
+          Tries image xs count c f found keys targets s ca me t keys' targets' s' ca' me' → FollowsTry t c f left n b b' (End o) →
+          Stops image xs count c₀ f₀ left₀ n₀ asked b₀ keys₀ targets₀ s₀ ca₀ me₀ o b' keys' targets' s' ca' me'
+      loop-stops (Done a) tries q =
+          let off = q .followed .followed .2 in
+          record {
+            stops = λ labels buffer limit run r told.
+                let now = inv .runs labels buffer limit run r told in
+                let made = tries .tried labels (now .1) in
+                (stands-over keys' targets' off (ended-by (now .0) l (made .0) (q .followed)), λ e. never (sym off ∙ e));
+          }
+      loop-stops (Asks start len) tries q =
+          rw (end-of (q .followed .0), q .followed .1) (record {
+            stops = λ labels buffer limit run r told.
+                let now = inv .runs labels buffer limit run r told in
+                let asks = tries .tried labels (now .1) in (
+                  rw (asks .3, asks .4, asks .5, asks .6, asks .7) (record { running = λ e. now .0; named = λ e g. asks .2; reached = λ e. never (sym e) }),
+                  λ e. (asks .1, inv .lighter (asks .0)),
+                );
+          })
+
+  -- the contract of `steps`
+  pub advances : {o : Progress} {asked : ℕ} {b keys targets s ca me : List ℕ} {r : Progress} {b' keys' targets' s' ca' me' : List ℕ} → count + 3 < 2 ^ 64 →
+      Stops image xs count (o .core) (o .flags) (o .left) (o .dumped) asked b keys targets s ca me r b' keys' targets' s' ca' me' →
+      Advances image xs count o asked b keys targets s ca me r b' keys' targets' s' ca' me'
+  advances {o} {asked} {b} {keys} {targets} {s} {ca} {me} {r} fits q labels buffer limit run on st fd =
+      record { stands = q .stops labels buffer limit run (st .running on) told .0; falls = by (nameIn image (o .start) (o .len)) (r .on) refl refl }
+    where
+      which : 0 < asked → (x : Bool) → nameIn image (o .start) (o .len) ≡ x → foundOf asked ≡ lookup (lent image (instsOf xs) labels count) (instOf xs (o .core .ip))
+      which some true e = let n = st .named on e in rw (n .0, n .1) (fd .found e fits _ _)
+      which some false e = absurd (omega (arith, fd .outside e))
+
+      told : Told (lent image (instsOf xs) labels count) xs (o .core .ip) asked
+      told some = which some (nameIn image (o .start) (o .len)) refl
+
+      by : (x y : Bool) → nameIn image (o .start) (o .len) ≡ x → r .on ≡ y → weight image r < weight image o
+      by true false e d = rw (on, e, d) (omega arith)
+      by false false e d = rw (on, e, d) (omega arith)
+      by true true e d =
+          let lighter = q .stops labels buffer limit run (st .running on) told .1 d in
+          let z : eqb asked 0 ≡ false = ne-eqb asked 0 (λ w. omega (arith, fd .some e)) in
+          rw (on, e, d, lighter .0) (omega (arith, rw z at (lighter .1)))
+      by false true e d =
+          let lighter = q .stops labels buffer limit run (st .running on) told .1 d in
+          let z : eqb asked 0 ≡ true = eq-eqb asked 0 (fd .outside e) in
+          rw (on, e, d, lighter .0) (omega (arith, rw z at (lighter .1)))

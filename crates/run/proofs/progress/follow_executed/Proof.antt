@@ -1,0 +1,57 @@
+-- `run::progress::follow_executed` meets its contract. Assumes nothing.
+use Rattle.run.proofs.Courses.{lent-set}
+use Rattle.run.proofs.Following.{for-answer, after-next, after-compared, after-dump, after-full, after-halt, after-trap, after-ill}
+use borrow.Author.Needs.{needs}
+use Rattle.run.proofs.progress.follow_executed.Statement.{statement}
+use Rattle.run.proofs.progress.follow_executed.Tie as tie
+
+returns : tie.Need-returns
+returns c = for-answer (c .before .answer .given .1) (after-next _ _ _ _ _ (c .before .before .before .before .pre .0) (c .before .before .before .before .pre .1) _ (rw (c .before .answer .given .1) at (c .before .before .before .before .pre .2)))
+
+returns-2 : tie.Need-returns-2
+returns-2 c = for-answer (c .before .answer2 .given .1) (after-compared _ _ _ _ _ (c .before .before .before .before .pre .0) (c .before .before .before .before .pre .1) _ _ (rw (c .before .answer2 .given .1) at (c .before .before .before .before .pre .2)))
+
+returns-3 : tie.Need-returns-3
+returns-3 c = for-answer (c .before .before .before .before .before .before .answer3 .given .1) (rw (lent-set _ _ _ _ (c .before .before .before .before .if1 .taken) (c .before .before .dump-cell .ensures)) (after-dump _ _ _ _ _ (c .before .before .before .before .before .before .before .before .before .pre .0) (c .before .before .before .before .before .before .before .before .before .pre .1) (c .before .before .before .before .if1 .taken) _ _ (rw (c .before .before .before .before .before .before .answer3 .given .1) at (c .before .before .before .before .before .before .before .before .before .pre .2))))
+
+returns-4 : tie.Need-returns-4
+returns-4 c = for-answer (c .before .before .before .answer3 .given .1) (rw (c .ends .ensures) (after-full _ _ _ _ _ (c .before .before .before .before .before .before .pre .0) (c .before .before .before .before .before .before .pre .1) (c .before .if1 .left) _ _))
+
+returns-5 : tie.Need-returns-5
+returns-5 c = for-answer (c .before .before .answer4 .given .1) (rw (c .ends2 .ensures) (after-halt _ _ _ _ _ (c .before .before .before .before .before .pre .0) (c .before .before .before .before .before .pre .1) _))
+
+returns-6 : tie.Need-returns-6
+returns-6 c = for-answer (c .before .before .answer5 .given .1) (rw (c .ends3 .ensures) (after-trap _ _ _ _ _ (c .before .before .before .before .before .pre .0) (c .before .before .before .before .before .pre .1) _ _))
+
+returns-7 : tie.Need-returns-7
+returns-7 c = for-answer (c .before .enum-told .given .1) (rw (c .ends4 .ensures) (after-ill _ _ _ _ _ (c .before .before .before .before .pre .0) (c .before .before .before .before .pre .1)))
+
+pub follow-executed-spec : {M : Type 1} → statement M
+follow-executed-spec =
+    tie.close
+    (tie.spec
+    (λ c. search needs)
+    (λ c. search needs)
+    (λ c. search needs)
+    (λ c. search needs)
+    (λ c. search needs)
+    (λ c. search needs)
+    (λ c. search needs)
+    (λ c. search needs)
+    (λ c κs. search needs)
+    (λ c. search needs)
+    (λ c κs. search needs)
+    (λ c. search needs)
+    (λ c κs. search needs)
+    (λ c. search needs)
+    (λ c κs. search needs)
+    (λ c. search needs)
+    (λ c κs. search needs)
+    returns
+    returns-2
+    (λ c. search needs)
+    returns-3
+    returns-4
+    returns-5
+    returns-6
+    returns-7)

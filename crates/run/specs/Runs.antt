@@ -1,0 +1,96 @@
+-- How far a run has come, whatever the labels are.
+use Prim.Native.Nat.{ℕ, _+_, _-_, _*_, _≤_, _<_, _^_}
+use mathlib.Core.Path.{_≡_}
+use mathlib.Core.Bool.{Bool, true, false, cond}
+use mathlib.Core.List.{List}
+use lib.ListN.{length, take, drop, replicate}
+use Rattle.inst.specs.Records.{nameIn}
+use Rattle.machine.specs.declared.Machine.{Machine}
+use Rattle.machine.specs.declared.Label.{Label}
+use Rattle.machine.specs.Lookup.{Program}
+use Rattle.machine.specs.Step.{wellState}
+use Rattle.machine.specs.Run.{Course, Result, course, run}
+use Rattle.tables.specs.Tables.{instsOf, program}
+use Rattle.step_core.specs.declared.Core.{Core}
+use Rattle.step_core.specs.Parts.{whole, Inside}
+use Rattle.lookup.specs.Walks.{lent, Finds}
+use Rattle.quick.specs.Known.{knownLimit, unknown, Known, Listed, Over}
+use Rattle.step.specs.Steps.{NamedAt, Sized}
+use Rattle.run.specs.declared.progress.Progress.{Progress}
+use Rattle.run.specs.declared.Ran.{Ran}
+use Rattle.run.specs.Turns.{more, closed}
+
+-- Of a run of p over the table xs with this limit and buffer: the limit less `left` steps led to the machine of c, f and the arrays, with n cells of
+-- the buffer filled, and what is known of the instructions is right
+pub record Running (p : Program) (xs b₀ : List ℕ) (limit : ℕ) (run : Course) (c : Core) (f left n : ℕ) (b keys targets s ca me : List ℕ) : Type 0 where
+  pub is : more (limit - left) (take n b) (course p left (length b₀ - n) (whole c f s ca me false)) ≡ run
+  pub small : Inside c
+  pub fewer : left ≤ limit
+  pub filled : n ≤ length b
+  pub long : length b ≡ length b₀
+  pub rest-kept : drop n b ≡ drop n b₀
+  pub over : Over p xs
+  pub known : Known p xs keys targets
+  pub sized : Sized keys targets
+
+-- the run is over, with this outcome
+pub record Reaches (run : Course) (limit : ℕ) (b₀ : List ℕ) (o : Progress) (b s ca me : List ℕ) : Type 0 where
+  pub is : closed (limit - o .left) o b s ca me ≡ run
+  pub long : length b ≡ length b₀
+  pub rest-kept : drop (o .dumped) b ≡ drop (o .dumped) b₀
+  pub fewer : o .left ≤ limit
+  pub filled : o .dumped ≤ length b
+
+-- The run goes on, and a name that it asks for is that of the instruction at the pointer; or it is over
+pub record Stands (p : Program) (xs b₀ : List ℕ) (limit : ℕ) (run : Course) (o : Progress) (b keys targets s ca me : List ℕ) : Type 0 where
+  pub running : o .on ≡ true → Running p xs b₀ limit run (o .core) (o .flags) (o .left) (o .dumped) b keys targets s ca me
+  pub named : o .on ≡ true → nameIn (p .image) (o .start) (o .len) ≡ true → NamedAt xs (o .core .ip) (o .start) (o .len)
+  pub reached : o .on ≡ false → Reaches run limit b₀ o b s ca me
+
+-- Where a run that asks goes on with what was found it takes a step or ends. It asks for a name outside the image, so for nothing, before its first step
+abbrev pub weight : List ℕ → Progress → ℕ
+weight image o = cond (o .on) (o .left + cond (nameIn image (o .start) (o .len)) 1 2) 0
+
+-- what `begin` gives for arrays that know nothing yet
+pub record Begins (p : Program) (xs b : List ℕ) (limit : ℕ) (c : Core) (f : ℕ) (h : Bool) (s ca me : List ℕ) (r : Progress) : Type 0 where
+  pub stands : Stands p xs b limit (course p limit (length b) (whole c f s ca me h)) r b (replicate knownLimit unknown) (replicate knownLimit 0) s ca me
+
+abbrev pub Begun : List ℕ → ℕ → Core → ℕ → Bool → ℕ → Progress → Type 0
+Begun xs count c f h limit r =
+    (image : List ℕ) (labels : List Label) (b s ca me : List ℕ) → length image < 2 ^ 64 → Begins (lent image (instsOf xs) labels count) xs b limit c f h s ca me r
+
+-- what `steps` requires: it doesn't depend on the labels
+pub record Ready (xs : List ℕ) (count : ℕ) (o : Progress) (b keys targets : List ℕ) : Type 0 where
+  pub small : Inside (o .core)
+  pub inside : count * 4 ≤ length xs
+  pub filled : o .dumped ≤ length b
+  pub sized : Sized keys targets
+  pub listed : Listed xs keys targets
+
+-- `steps` leads from o to r
+pub record Leads (p : Program) (xs b₀ : List ℕ) (limit : ℕ) (run : Course) (o r : Progress) (b keys targets s ca me : List ℕ) : Type 0 where
+  pub stands : Stands p xs b₀ limit run r b keys targets s ca me
+  pub falls : weight (p .image) r < weight (p .image) o
+
+-- whatever the labels are, if `found` is what the lookup of the name asked for finds in them
+abbrev pub Advances : List ℕ → List ℕ → ℕ → Progress → ℕ → List ℕ → List ℕ → List ℕ → List ℕ → List ℕ → List ℕ → Progress → List ℕ → List ℕ → List ℕ → List ℕ → List ℕ → List ℕ → Type 0
+Advances image xs count o found b keys targets s ca me r b' keys' targets' s' ca' me' =
+    (labels : List Label) (b₀ : List ℕ) (limit : ℕ) (run : Course) →
+    o .on ≡ true →
+    Stands (lent image (instsOf xs) labels count) xs b₀ limit run o b keys targets s ca me →
+    Finds (lent image (instsOf xs) labels count) (o .start) (o .len) found →
+    Leads (lent image (instsOf xs) labels count) xs b₀ limit run o r b' keys' targets' s' ca' me'
+
+-- 34 before the first step, but for the pointer and the record: no step changes it
+pub record Fit (xs : List ℕ) (count : ℕ) (c : Core) (r : Bool) : Type 0 where
+  pub well : r ≡ false → Inside c × (count * 4 ≤ length xs)
+  pub unwell : r ≡ true → (image : List ℕ) (labels : List Label) (f : ℕ) (s ca me : List ℕ) →
+      wellState (lent image (instsOf xs) labels count) (whole c f s ca me false) ≡ false
+
+-- what a run's answer says
+abbrev pub answer : Ran → List ℕ → Result
+answer r b = record { machine = r .machine; ending = r .ending; steps = r .steps; dumped = r .dumped; buffer = b }
+
+-- the promise: what a run over lent tables answers, and the buffer that it leaves
+abbrev pub ExecuteProgram : (image insts labels : List ℕ) → ℕ → Machine → ℕ → List ℕ → Ran → List ℕ → Type 0
+ExecuteProgram image insts labels count m limit dumps r dumps′ = answer r dumps′ ≡ run (program image insts labels count) limit dumps m

@@ -1,0 +1,81 @@
+-- What follows one step of a run.
+use Prim.Native.Nat.{ℕ, _+_, _-_, _≤_}
+use mathlib.Core.Path.{_≡_}
+use mathlib.Core.Bool.{true, false, cond}
+use mathlib.Core.List.{List, _++_}
+use lib.Dec.{eqb}
+use lib.ListN.{length, take, drop}
+use Rattle.machine.specs.declared.Machine.{Machine}
+use Rattle.machine.specs.declared.Ending.{Ending}
+use Rattle.machine.specs.declared.Ending.the-variants.{Halted, Limit, Number}
+use Rattle.machine.specs.Step.{Stepped}
+use Rattle.machine.specs.Run.{Course, ended, before, turn}
+use Rattle.step_core.specs.declared.Core.{Core}
+use Rattle.step_core.specs.declared.Executed.{Executed}
+use Rattle.step_core.specs.Parts.{whole, means, Inside, Untaken}
+use Rattle.step.specs.declared.Tried.{Tried}
+use Rattle.step.specs.declared.Tried.the-variants.{Done, Asks}
+use Rattle.run.specs.declared.progress.Progress.{Progress}
+use Rattle.run.specs.declared.progress.Turn.{Turn}
+use Rattle.run.specs.declared.progress.Turn.the-variants.{Go, End}
+
+-- a course that comes after k steps, which dumped out
+unfoldable pub more : ℕ → List ℕ → Course → Course
+more k out r = record { machine = r .machine; ending = r .ending; steps = k + r .steps; cells = out ++ r .cells }
+
+-- an ending as two numbers
+abbrev pub endingOf : ℕ → ℕ → Ending
+endingOf kind n = cond (eqb kind 0) Halted (cond (eqb kind 1) Limit (Number n))
+
+-- the course of a run that is over, after this many steps
+abbrev pub closed : ℕ → Progress → List ℕ → List ℕ → List ℕ → List ℕ → Course
+closed steps o b s ca me =
+    record { machine = whole (o .core) (o .flags) s ca me (eqb (o .ending) 0); ending = endingOf (o .ending) (o .number); steps = steps; cells = take (o .dumped) b }
+
+-- with so many steps and so much room left, the turn that m takes by the step st
+abbrev pub turned : Machine → (ℕ → Machine → Course) → ℕ → ℕ → Stepped → Course
+turned m rest left room st = turn m rest room st (before m left room st)
+
+-- one that is halted ends there
+abbrev pub Rests : (ℕ → Machine → Course) → Type 0
+Rests rest = (room : ℕ) (m : Machine) → m .halted ≡ true → rest room m ≡ ended Halted m
+
+-- the buffer b with n cells filled became b' with n'
+pub record Fills (n : ℕ) (b : List ℕ) (n' : ℕ) (b' : List ℕ) : Type 0 where
+  pub filled : n' ≤ length b
+  pub long : length b' ≡ length b
+  pub rest-kept : drop n' b' ≡ drop n' b
+  pub more-filled : n ≤ n'
+
+-- behind a step from c and f whose answer is a, with n cells of the buffer b filled: on with `rest`, or the end
+abbrev pub Followed : Executed → Core → ℕ → ℕ → ℕ → List ℕ → List ℕ → Turn → Type 0
+Followed a c f left n b b' (Go on g n') =
+    ((s ca me s' ca' me' : List ℕ) (rest : ℕ → Machine → Course) (k : ℕ) → Untaken a ((s' ≡ s) × (ca' ≡ ca) × (me' ≡ me)) →
+    more k (take n b) (turned (whole c f s ca me false) rest left (length b - n) (means f a s' ca' me')) ≡ more (k + 1) (take n' b') (rest (length b - n') (whole on g s' ca' me' false)))
+    × Inside on
+    × Fills n b n' b'
+Followed a c f left n b b' (End o) =
+    ((s ca me s' ca' me' : List ℕ) (rest : ℕ → Machine → Course) (k : ℕ) → Rests rest → Untaken a ((s' ≡ s) × (ca' ≡ ca) × (me' ≡ me)) →
+    more k (take n b) (turned (whole c f s ca me false) rest left (length b - n) (means f a s' ca' me')) ≡ closed (k + (left - o .left)) o b' s' ca' me')
+    × (o .left ≤ left)
+    × (o .on ≡ false)
+    × Fills n b (o .dumped) b'
+
+pub record Follows (a : Executed) (c : Core) (f left n : ℕ) (b b' : List ℕ) (r : Turn) : Type 0 where
+  pub followed : Followed a c f left n b b' r
+
+-- a run that asks for the lookup of a name
+abbrev pub asking : Core → ℕ → ℕ → ℕ → ℕ → ℕ → Progress
+asking c f left n start len = record { core = c; flags = f; left = left; dumped = n; on = true; start = start; len = len; ending = 0; number = 0 }
+
+-- one that is over
+abbrev pub ending : Core → ℕ → ℕ → ℕ → ℕ → ℕ → Progress
+ending c f left n kind number = record { core = c; flags = f; left = left; dumped = n; on = false; start = 0; len = 0; ending = kind; number = number }
+
+-- the same behind a step that was tried: where it asks, so does the run
+abbrev pub FollowsTried : Tried → Core → ℕ → ℕ → ℕ → List ℕ → List ℕ → Turn → Type 0
+FollowsTried (Done a) c f left n b b' r = Follows a c f left n b b' r
+FollowsTried (Asks start len) c f left n b b' r = (r ≡ End (asking c f left n start len)) × (b' ≡ b)
+
+pub record FollowsTry (t : Tried) (c : Core) (f left n : ℕ) (b b' : List ℕ) (r : Turn) : Type 0 where
+  pub followed : FollowsTried t c f left n b b' r

@@ -1,0 +1,229 @@
+// A run (execute_program of mm's mm.rs) over the machine by value: the general step where something is new or ends the run,
+// and the quick loop for all the rest. Only execute_program and lookup hold the label table: where `steps` needs a lookup
+// it stops and asks for it.
+ghost use mathlib.Core.Path.{_≡_};
+ghost use Prim.Native.Nat.{_-_, _≤_};
+ghost use lib.Dec.{eqb};
+ghost use Rattle.step_core.specs.Parts.{whole};
+ghost use Rattle.run.specs.Turns.{endingOf};
+ghost use Rattle.run.specs.Runs.{Begun, Ready, Advances, Fit, ExecuteProgram};
+
+pub mod progress;
+
+use crate::progress::HALTED;
+use crate::progress::LIMIT;
+use crate::progress::NUMBER;
+use crate::progress::Progress;
+use crate::progress::Turn;
+use crate::progress::asks;
+use crate::progress::ends;
+use crate::progress::follow;
+use lookup::lookup;
+use machine::Ending;
+use machine::Machine;
+use quick::KNOWN_LIMIT;
+use quick::UNKNOWN;
+use quick::run_known;
+use step::step;
+use step_core::CALL_LIMIT;
+use step_core::Core;
+use step_core::MEMORY_SIZE;
+use step_core::STACK_LIMIT;
+
+// What a run returns.
+pub struct Ran {
+    pub machine: Machine,
+    pub ending: Ending,
+    pub steps: u64,
+    pub dumped: usize,
+}
+
+// Start and length of no name: it lies in no image.
+const NO_NAME: u64 = 0xFFFFFFFFFFFFFFFF;
+
+// 34 before the first step, but for the pointer and the record: no step changes it.
+fn is_ill(insts: &[u64], count: usize, core: Core) -> bool
+    ensures { λ r. ⌜ Fit (now (insts .entry)) count core r ⌝ }
+{
+    if STACK_LIMIT < core.height {
+        return true;
+    }
+    if CALL_LIMIT < core.call_height {
+        return true;
+    }
+    insts.len() / 4 < count
+}
+
+// The endings before the first step, in order; or the run goes on. It asks for nothing yet.
+pub fn begin(
+    insts: &[u64],
+    count: usize,
+    core: Core,
+    flags: u8,
+    halted: bool,
+    limit: u64,
+) -> Progress
+    ensures { λ r. ⌜ Begun (now (insts .entry)) count core flags halted limit r ⌝ }
+{
+    if halted {
+        return ends(core, flags, limit, 0, HALTED, 0);
+    }
+    if limit == 0 {
+        return ends(core, flags, 0, 0, LIMIT, 0);
+    }
+    if is_ill(insts, count, core) {
+        return ends(core, flags, limit, 0, NUMBER, 34);
+    }
+    asks(core, flags, limit, 0, NO_NAME, NO_NAME)
+}
+
+// The steps of a run that goes on: one step as the definition has it, then the known ones, and so on until the run is over
+// or a name must be looked up. `asked` is what was found for the name that it asked for, 0 if for none. The loop keeps:
+// - the limit less `left` steps lead to the machine of core, flags and the arrays, with dumps[..n] dumped;
+// - heights are within their limits;
+// - what step's known.rt says of keys and targets.
+pub fn steps(
+    image: &[u8],
+    insts: &[u64],
+    count: usize,
+    from: Progress,
+    asked: u64,
+    stack: &mut [u64; STACK_LIMIT],
+    calls: &mut [u64; CALL_LIMIT],
+    memory: &mut [u8; MEMORY_SIZE],
+    keys: &mut [u8; KNOWN_LIMIT],
+    targets: &mut [u16; KNOWN_LIMIT],
+    dumps: &mut [u64],
+) -> Progress
+    requires { ⌜ Ready (now insts) count from (now dumps) (now keys) (now targets) ⌝ }
+    ensures { λ r. ⌜ Advances (now (image .entry)) (now (insts .entry)) count from asked (now (dumps .entry)) (now (keys .entry)) (now (targets .entry)) (now (stack .entry)) (now (calls .entry)) (now (memory .entry)) r (now (dumps .exit)) (now (keys .exit)) (now (targets .exit)) (now (stack .exit)) (now (calls .exit)) (now (memory .exit)) ⌝ }
+{
+    let mut core = from.core;
+    let mut flags = from.flags;
+    let mut left = from.left;
+    let mut n = from.dumped;
+    let mut found = asked;
+    while left > 0 {
+        let tried = step(
+            image,
+            insts,
+            count,
+            keys,
+            targets,
+            flags,
+            core,
+            found,
+            stack,
+            calls,
+            memory,
+        );
+        let turn = follow(tried, core, flags, left, n, dumps);
+        match turn {
+            Turn::Go(next, g, dumped) => {
+                let reached = run_known(
+                    insts,
+                    keys,
+                    targets,
+                    next,
+                    g,
+                    stack,
+                    calls,
+                    memory,
+                    left - 1,
+                );
+                let last = reached.core;
+                core = last;
+                flags = reached.flags;
+                left = reached.left;
+                n = dumped;
+                found = 0;
+            }
+            Turn::End(progress) => {
+                return progress;
+            }
+        }
+    }
+    ends(core, flags, 0, n, LIMIT, 0)
+}
+
+fn ending(kind: u8, number: u8) -> Ending
+    ensures { λ r. ⌜ r ≡ endingOf kind number ⌝ }
+{
+    match kind {
+        0 => Ending::Halted,
+        1 => Ending::Limit,
+        _ => Ending::Number(number),
+    }
+}
+
+// The machine and what a run returns, from the parts of a run that is over.
+pub fn pack(
+    stack: [u64; STACK_LIMIT],
+    calls: [u64; CALL_LIMIT],
+    memory: [u8; MEMORY_SIZE],
+    o: Progress,
+    limit: u64,
+) -> Ran
+    requires { ⌜ o .left ≤ limit ⌝ }
+    ensures { λ r. ⌜ r ≡ record { machine = whole (o .core) (o .flags) stack calls memory (eqb (o .ending) 0); ending = endingOf (o .ending) (o .number); steps = limit - o .left; dumped = o .dumped } ⌝ }
+{
+    let core = o.core;
+    let machine = Machine {
+        stack: stack,
+        height: core.height,
+        calls: calls,
+        call_height: core.call_height,
+        memory: memory,
+        flags: o.flags,
+        ip: core.ip,
+        halted: o.ending == HALTED,
+    };
+    let last = ending(o.ending, o.number);
+    Ran {
+        machine: machine,
+        ending: last,
+        steps: limit - o.left,
+        dumped: o.dumped,
+    }
+}
+
+pub fn execute_program(
+    image: &[u8],
+    insts: &[u64],
+    labels: &[u64],
+    count: usize,
+    m: Machine,
+    limit: u64,
+    dumps: &mut [u64],
+) -> Ran
+    ensures { λ r. ⌜ ExecuteProgram (now (image .entry)) (now (insts .entry)) (now (labels .entry)) count m limit (now (dumps .entry)) r (now (dumps .exit)) ⌝ }
+{
+    let core = Core {
+        ip: m.ip,
+        height: m.height,
+        call_height: m.call_height,
+    };
+    let mut stack = m.stack;
+    let mut calls = m.calls;
+    let mut memory = m.memory;
+    let mut keys = [UNKNOWN; KNOWN_LIMIT];
+    let mut targets = [0u16; KNOWN_LIMIT];
+    let mut o = begin(insts, count, core, m.flags, m.halted, limit);
+    while o.on {
+        let found = lookup(image, labels, count, o.start, o.len);
+        o = steps(
+            image,
+            insts,
+            count,
+            o,
+            found,
+            &mut stack,
+            &mut calls,
+            &mut memory,
+            &mut keys,
+            &mut targets,
+            dumps,
+        );
+    }
+    pack(stack, calls, memory, o, limit)
+}

@@ -1,0 +1,119 @@
+// How far a run has come, and what follows one step of it.
+ghost use mathlib.Core.Path.{_≡_};
+ghost use Prim.Native.Nat.{_≤_, _<_};
+ghost use lib.ListN.{length, set};
+ghost use Rattle.step_core.specs.Parts.{Small};
+ghost use Rattle.step.specs.Steps.{SmallTried};
+ghost use Rattle.run.specs.Turns as turns;
+ghost use Rattle.run.specs.Turns.{Follows, FollowsTry};
+use step::Tried;
+use step_core::Core;
+use step_core::Executed;
+
+// What changes beside the arrays: the machine's numbers, the steps that are left and the cells dumped so far. The run
+// goes on, and asks for the lookup of the name at `start`; or it is over. The ending is in numbers: the functions above
+// carry a Progress from turn to turn.
+pub struct Progress {
+    pub core: Core,
+    pub flags: u8,
+    pub left: u64,
+    pub dumped: usize,
+    pub on: bool,
+    pub start: u64,
+    pub len: u64,
+    pub ending: u8,
+    pub number: u8,
+}
+
+// The endings of a Progress. A number stands beside the last.
+pub const HALTED: u8 = 0;
+
+pub const LIMIT: u8 = 1;
+
+pub const NUMBER: u8 = 2;
+
+pub fn asks(core: Core, flags: u8, left: u64, dumped: usize, start: u64, len: u64) -> Progress
+    ensures { λ r. ⌜ r ≡ turns.asking core flags left dumped start len ⌝ }
+{
+    Progress {
+        core: core,
+        flags: flags,
+        left: left,
+        dumped: dumped,
+        on: true,
+        start: start,
+        len: len,
+        ending: 0,
+        number: 0,
+    }
+}
+
+pub fn ends(core: Core, flags: u8, left: u64, dumped: usize, ending: u8, number: u8) -> Progress
+    ensures { λ r. ⌜ r ≡ turns.ending core flags left dumped ending number ⌝ }
+{
+    Progress {
+        core: core,
+        flags: flags,
+        left: left,
+        dumped: dumped,
+        on: false,
+        start: 0,
+        len: 0,
+        ending: ending,
+        number: number,
+    }
+}
+
+// After a step: on with the next, its flags and the cells dumped so far; or the run stops here.
+pub enum Turn {
+    Go(Core, u8, usize),
+    End(Progress),
+}
+
+fn dump_cell(room: &mut [u64], cell: u64)
+    requires { ⌜ 0 < length (now room) ⌝ }
+    ensures { λ r. ⌜ now (room .exit) ≡ set (now (room .entry)) 0 cell ⌝ }
+{
+    room[0] = cell;
+}
+
+// What an executed step comes to for a run that was at core with so many steps left and n cells dumped. 34 and 33 count
+// no step and change nothing, a trap counts and ends the run.
+fn follow_executed(
+    answer: Executed,
+    core: Core,
+    flags: u8,
+    left: u64,
+    n: usize,
+    dumps: &mut [u64],
+) -> Turn
+    requires { ⌜ (0 < left) × (n ≤ length (now dumps)) × Small answer ⌝ }
+    ensures { λ r. ⌜ Follows answer core flags left n (now (dumps .entry)) (now (dumps .exit)) r ⌝ }
+{
+    let after = left - 1;
+    match answer {
+        Executed::Next(next) => Turn::Go(next, flags, n),
+        Executed::Compared(next, g) => Turn::Go(next, g, n),
+        Executed::Dump(next, cell) => {
+            if n < dumps.len() {
+                dump_cell(&mut dumps[n..], cell);
+                Turn::Go(next, flags, n + 1)
+            } else {
+                Turn::End(ends(core, flags, left, n, NUMBER, 33))
+            }
+        }
+        Executed::Halt(last) => Turn::End(ends(last, flags, after, n, HALTED, 0)),
+        Executed::Trap(last, t) => Turn::End(ends(last, flags, after, n, NUMBER, t)),
+        Executed::Ill => Turn::End(ends(core, flags, left, n, NUMBER, 34)),
+    }
+}
+
+pub fn follow(tried: Tried, core: Core, flags: u8, left: u64, n: usize, dumps: &mut [u64]) -> Turn
+    requires { ⌜ (0 < left) × (n ≤ length (now dumps)) × SmallTried tried ⌝ }
+    ensures { λ r. ⌜ FollowsTry tried core flags left n (now (dumps .entry)) (now (dumps .exit)) r ⌝ }
+{
+    match tried {
+        Tried::Done(answer) => follow_executed(answer, core, flags, left, n, dumps),
+        Tried::Asks(start, len) => Turn::End(asks(core, flags, left, n, start, len)),
+    }
+}

@@ -1,0 +1,105 @@
+-- `step::step` meets its contract. Assumes nothing.
+use lib.ListN.{getD, length}
+use Prim.Native.Nat.{ℕ, _+_, _*_, _<_}
+use borrow.Author.Tests.{not-true, not-false}
+use native.Mathlib.Omega.{arith}
+use mathlib.Core.Path.{refl, sym, _∙_}
+use mathlib.Core.List.{[]}
+use Rattle.inst.proofs.Facts.{typ-byte}
+use Rattle.inst.proofs.Laws.{never}
+use Rattle.machine.specs.Lookup.{noLabel}
+use Rattle.quick.specs.Known.{instOf, KnownAt}
+use Rattle.tables.specs.Tables.{instsOf}
+use Rattle.lookup.specs.Walks.{lent}
+use Rattle.step.proofs.Keeping.{keeps-sized, keeps, keeps-jump-sized, keeps-jump}
+use Rattle.step.proofs.Whole.{found-target, name-lies, known-at, step-past, step-unformed, made-found, made-acts}
+use borrow.Author.Needs.{needs}
+use Rattle.step.proofs.step.Statement.{statement}
+use Rattle.step.proofs.step.Tie as tie
+
+returns : tie.Need-returns
+returns c = record { small = tt; sized = c .before .before .before .pre .2; listed = c .before .before .before .pre .3; tried = λ labels told. (record { does = step-past _ _ _ _ (c .before .before .before .pre .1) _ _ _ _ _ (c .before .before .before .pre .0) (c .if1 .taken); small = tt; kept = (refl, refl, refl) }, λ k. k) }
+
+returns-2 : tie.Need-returns-2
+returns-2 c = record { small = tt; sized = c .before .before .before .before .before .pre .2; listed = c .before .before .before .before .before .pre .3; tried = λ labels told. (record { does = step-unformed _ _ _ _ (c .before .before .before .before .before .pre .1) _ _ _ _ _ (c .before .before .before .before .before .pre .0) (c .before .before .if1 .left) (sym (c .before .is-well-formed-at .ensures) ∙ not-true _ (c .if2 .taken)); small = tt; kept = (refl, refl, refl) }, λ k. k) }
+
+returns-3 : tie.Need-returns-3
+returns-3 c =
+    let formed = sym (c .before .before .before .before .before .before .before .is-well-formed-at .ensures) ∙ not-false _ (c .before .before .before .before .before .before .if2 .left) in
+    record { small = tt; sized = c .before .before .before .before .before .before .before .before .before .before .before .pre .2; listed = c .before .before .before .before .before .before .before .before .before .before .before .pre .3; tried = λ labels told. (c .before .before .if4 .taken, name-lies _ (c .before .before .before .before .before .before .before .before .before .before .before .args .insts .now) (c .before .before .before .before .before .before .before .before .before .before .before .args .core .ip) formed (sym (c .before .before .before .before .looks-up .ensures) ∙ c .before .before .before .if3 .taken), (refl, refl), refl, refl, refl, refl, refl) }
+
+keep-jump-requires : tie.Need-keep-jump-requires
+keep-jump-requires c κs = omega (arith, typ-byte _ (instOf (c .before .before .before .before .before .before .before .before .before .before .before .args .insts .now) (c .before .before .before .before .before .before .before .before .before .before .before .args .core .ip)) (sym (c .before .before .before .before .before .before .before .is-well-formed-at .ensures) ∙ not-false _ (c .before .before .before .before .before .before .if2 .left)))
+
+execute-jump-requires : tie.Need-execute-jump-requires
+execute-jump-requires c κs = ((c .before .before .before .before .before .before .before .before .before .before .before .before .before .pre .0 .0, c .before .before .before .before .before .before .before .before .before .before .before .before .before .pre .0 .1, search needs), omega (arith, c .before .before .before .before .if4 .left), sym (c .before .before .before .before .before .before .looks-up .ensures) ∙ c .before .before .before .before .before .if3 .taken)
+
+keep-requires : tie.Need-keep-requires
+keep-requires c κs = omega (arith, typ-byte _ (instOf (c .before .before .before .before .before .before .before .before .before .args .insts .now) (c .before .before .before .before .before .before .before .before .before .args .core .ip)) (sym (c .before .before .before .before .before .is-well-formed-at .ensures) ∙ not-false _ (c .before .before .before .before .if2 .left)))
+
+execute-instruction-requires : tie.Need-execute-instruction-requires
+execute-instruction-requires c κs = ((c .before .before .before .before .before .before .before .before .before .before .before .before .before .before .pre .0 .0, c .before .before .before .before .before .before .before .before .before .before .before .before .before .before .pre .0 .1, search needs), sym (c .before .before .before .before .before .before .before .looks-up .ensures) ∙ c .before .before .before .before .before .before .if3 .left)
+
+returns-4 : tie.Need-returns-4
+returns-4 c =
+    let formed = sym (c .before .before .before .before .before .before .before .before .before .before .is-well-formed-at .ensures) ∙ not-false _ (c .before .before .before .before .before .before .before .before .before .if2 .left) in
+    let xs = c .before .before .before .before .before .before .before .before .before .before .before .before .before .before .args .insts .now in
+    let ip = c .before .before .before .before .before .before .before .before .before .before .before .before .before .before .args .core .ip in
+    let kept = c .before .before .keep-jump .ensures in
+    let below = c .before .before .before .before .before .before .before .before .before .before .before .if1 .left in
+    record {
+      small = c .execute-jump .ensures 0 0 0 [] [] .small;
+      sized = keeps-jump-sized (c .before .before .before .before .before .before .before .before .before .before .before .before .before .before .pre .2) kept;
+      listed = keeps-jump (c .before .before .before .before .before .before .before .before .before .before .before .before .before .before .pre .2) kept (λ (key t i : ℕ). i * 4 + 3 < length xs) (c .before .before .before .before .before .before .before .before .before .before .before .before .before .before .pre .3) (λ h. omega (arith, below, c .before .before .before .before .before .before .before .before .before .before .before .before .before .before .pre .1));
+      tried = λ labels told. let finds = told (omega (arith, c .before .before .before .before .before .if4 .left)) in (
+        made-found _ xs labels (c .before .before .before .before .before .before .before .before .before .before .before .before .before .before .args .count) (c .before .before .before .before .before .before .before .before .before .before .before .before .before .before .pre .1) _ _ _ _ _ (c .before .before .before .before .before .before .before .before .before .before .before .before .before .before .pre .0) below formed _ _ _ _ _ finds (c .execute-jump .ensures (getD xs (ip * 4 + 1) 0) (getD xs (ip * 4 + 2) 0) (getD xs (ip * 4 + 3) 0) _ _),
+        λ k. keeps-jump (c .before .before .before .before .before .before .before .before .before .before .before .before .before .before .pre .2) kept (KnownAt (lent (c .before .before .before .before .before .before .before .before .before .before .before .before .before .before .args .image .now) (instsOf xs) labels (c .before .before .before .before .before .before .before .before .before .before .before .before .before .before .args .count)) xs) k (λ h. known-at _ xs labels _ (c .before .before .before .before .before .before .before .before .before .before .before .before .before .before .pre .1) ip below formed _ (λ l. sym finds ∙ found-target _ h)),
+      );
+    }
+
+returns-5 : tie.Need-returns-5
+returns-5 c =
+    let formed = sym (c .before .before .before .before .before .before .before .before .before .before .before .is-well-formed-at .ensures) ∙ not-false _ (c .before .before .before .before .before .before .before .before .before .before .if2 .left) in
+    let xs = c .before .before .before .before .before .before .before .before .before .before .before .before .before .before .before .args .insts .now in
+    let ip = c .before .before .before .before .before .before .before .before .before .before .before .before .before .before .before .args .core .ip in
+    let below = c .before .before .before .before .before .before .before .before .before .before .before .before .if1 .left in
+    record {
+      small = c .execute-instruction .ensures noLabel 0 0 .small;
+      sized = keeps-sized (c .before .before .before .before .before .before .before .before .before .before .before .before .before .before .before .pre .2) (c .before .before .before .before .before .keep .ensures);
+      listed = keeps (c .before .before .before .before .before .before .before .before .before .before .before .before .before .before .before .pre .2) (c .before .before .before .before .before .keep .ensures) (λ (key t i : ℕ). i * 4 + 3 < length xs) (c .before .before .before .before .before .before .before .before .before .before .before .before .before .before .before .pre .3) (λ t. omega (arith, below, c .before .before .before .before .before .before .before .before .before .before .before .before .before .before .before .pre .1));
+      tried = λ labels told. (
+        made-acts _ xs labels (c .before .before .before .before .before .before .before .before .before .before .before .before .before .before .before .args .count) (c .before .before .before .before .before .before .before .before .before .before .before .before .before .before .before .pre .1) _ _ _ _ _ (c .before .before .before .before .before .before .before .before .before .before .before .before .before .before .before .pre .0) below formed _ _ _ _ (c .execute-instruction .ensures _ (getD xs (ip * 4 + 2) 0) (getD xs (ip * 4 + 3) 0)),
+        λ k. keeps (c .before .before .before .before .before .before .before .before .before .before .before .before .before .before .before .pre .2) (c .before .before .before .before .before .keep .ensures) (KnownAt (lent (c .before .before .before .before .before .before .before .before .before .before .before .before .before .before .before .args .image .now) (instsOf xs) labels (c .before .before .before .before .before .before .before .before .before .before .before .before .before .before .before .args .count)) xs) k (λ t. known-at _ xs labels _ (c .before .before .before .before .before .before .before .before .before .before .before .before .before .before .before .pre .1) ip below formed _ (λ l. never (sym (sym (c .before .before .before .before .before .before .before .before .looks-up .ensures) ∙ c .before .before .before .before .before .before .before .if3 .left) ∙ l))),
+      );
+    }
+
+pub step-spec : {M : Type 1} → statement M
+step-spec =
+    tie.close
+    (tie.spec
+    returns
+    (λ c κs. search needs)
+    returns-2
+    (λ c. search needs)
+    (λ c. search needs)
+    (λ c. search needs)
+    (λ c κs. search needs)
+    (λ c. search needs)
+    (λ c. search needs)
+    (λ c. search needs)
+    (λ c. search needs)
+    (λ c. search needs)
+    (λ c. search needs)
+    (λ c. search needs)
+    (λ c. search needs)
+    returns-3
+    keep-jump-requires
+    execute-jump-requires
+    keep-requires
+    (λ c. search needs)
+    (λ c. search needs)
+    (λ c. search needs)
+    (λ c. search needs)
+    execute-instruction-requires
+    returns-4
+    returns-5)

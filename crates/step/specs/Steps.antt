@@ -1,0 +1,74 @@
+-- What the general step comes to, whatever the labels are.
+use Prim.Native.Nat.{ℕ, _+_, _*_, _<_}
+use mathlib.Core.Path.{_≡_}
+use mathlib.Core.Bool.{true, false}
+use mathlib.Core.List.{List}
+use lib.ListN.{length, getD}
+use Rattle.inst.specs.Records.{nameIn}
+use Rattle.machine.specs.declared.Machine.{Machine}
+use Rattle.machine.specs.declared.Label.{Label}
+use Rattle.machine.specs.Lookup.{Program, Found, lookup}
+use Rattle.machine.specs.Step.{Stepped, step, exec, opOf}
+use Rattle.tables.specs.Tables.{inst, instsOf}
+use Rattle.step_core.specs.declared.Core.{Core}
+use Rattle.step_core.specs.declared.Executed.{Executed}
+use Rattle.step_core.specs.Parts.{whole, means, Small, Untaken, Acts, foundOf}
+use Rattle.lookup.specs.Walks.{lent}
+use Rattle.quick.specs.Known.{knownLimit, instOf, Known, Listed}
+use Rattle.step.specs.declared.Tried.{Tried}
+use Rattle.step.specs.declared.Tried.the-variants.{Done, Asks}
+
+-- with the flags f, the answer r means the step st; s' and so on are left of the arrays s, ca, me, and no step is taken unless they are as before
+pub record Made (st : Stepped) (f : ℕ) (s ca me : List ℕ) (r : Executed) (s' ca' me' : List ℕ) : Type 0 where
+  pub does : means f r s' ca' me' ≡ st
+  pub small : Small r
+  pub kept : Untaken r ((s' ≡ s) × (ca' ≡ ca) × (me' ≡ me))
+
+-- a jump or CALL with the first byte op, whatever the arrays are that it doesn't see
+abbrev pub Jumps : ℕ → Found → Core → ℕ → List ℕ → Executed → List ℕ → Type 0
+Jumps op found c f ca r ca' =
+    (v start len : ℕ) (s me : List ℕ) → Made (exec found (inst op v start len) (whole c f s ca me false) (opOf op)) f s ca me r s ca' me
+
+-- any other instruction: `found` and its name don't count
+abbrev pub Executes : ℕ → ℕ → Core → List ℕ → List ℕ → List ℕ → Executed → List ℕ → List ℕ → List ℕ → Type 0
+Executes op v c s ca me r s' ca' me' =
+    (found : Found) (start len : ℕ) → Acts (λ (m : Machine). exec found (inst op v start len) m (opOf op)) c s ca me r s' ca' me'
+
+-- a program over the table xs, whose instruction at the index ip has this name
+abbrev pub NamedAt : List ℕ → ℕ → ℕ → ℕ → Type 0
+NamedAt xs ip start len = (getD xs (ip * 4 + 2) 0 ≡ start) × (getD xs (ip * 4 + 3) 0 ≡ len)
+
+-- what `found` says of the instruction at the index ip: nothing, or what its lookup finds
+abbrev pub Told : Program → List ℕ → ℕ → ℕ → Type 0
+Told p xs ip found = 0 < found → foundOf found ≡ lookup p (instOf xs ip)
+
+-- the two arrays have their length
+pub record Sized (keys targets : List ℕ) : Type 0 where
+  pub keys-long : length keys ≡ knownLimit
+  pub targets-long : length targets ≡ knownLimit
+
+-- where a run goes on, the heights are within their limits
+abbrev pub SmallTried : Tried → Type 0
+SmallTried (Done a) = Small a
+SmallTried (Asks start len) = Unit
+
+-- the definition's step; or, with nothing changed, the lookup of the instruction's name is asked for
+abbrev pub IsTried : Program → List ℕ → Core → ℕ → ℕ → List ℕ → List ℕ → List ℕ → List ℕ → List ℕ → Tried → List ℕ → List ℕ → List ℕ → List ℕ → List ℕ → Type 0
+IsTried p xs c f found keys targets s ca me (Done a) keys' targets' s' ca' me' =
+    Made (step p (whole c f s ca me false)) f s ca me a s' ca' me' × (Known p xs keys targets → Known p xs keys' targets')
+IsTried p xs c f found keys targets s ca me (Asks start len) keys' targets' s' ca' me' =
+    (found ≡ 0)
+    × (nameIn (p .image) start len ≡ true)
+    × NamedAt xs (c .ip) start len
+    × (keys' ≡ keys)
+    × (targets' ≡ targets)
+    × (s' ≡ s)
+    × (ca' ≡ ca)
+    × (me' ≡ me)
+
+pub record Tries (image xs : List ℕ) (count : ℕ) (c : Core) (f found : ℕ) (keys targets s ca me : List ℕ) (r : Tried) (keys' targets' s' ca' me' : List ℕ) : Type 0 where
+  pub small : SmallTried r
+  pub sized : Sized keys' targets'
+  pub listed : Listed xs keys' targets'
+  pub tried : (labels : List Label) → Told (lent image (instsOf xs) labels count) xs (c .ip) found →
+      IsTried (lent image (instsOf xs) labels count) xs c f found keys targets s ca me r keys' targets' s' ca' me'
