@@ -40,10 +40,13 @@ module _ (image insts labels : List ℕ) (ip count : ℕ) (insts′ labels′ : 
       let is : instsOf insts′ ≡ sets (instsOf insts) 0 (l .insts) = ap instsOf i ∙ insts-sets (l .insts) insts in
       let ls : labelsOf labels′ ≡ sets (labelsOf labels) 0 (l .labels) = ap labelsOf j ∙ labels-sets (l .labels) labels in
       let p : program image insts′ labels′ count ≡ lent image (instsOf insts) (labelsOf labels) l = rw (is, ls, n) in
-      let w = from-calls image insts′ labels′ count (freshAt ip) cs h in
-      (l, refl, runs-are-one-history image (instsOf insts) (labelsOf labels) l bytes e (map request cs) (map result cs)
-      (subst (λ (q : Program). RunsFrom q (fresh l) (map request cs) (map result cs)) p
-      (subst (λ (x : Machine). RunsFrom (program image insts′ labels′ count) x (map request cs) (map result cs)) m w)))
+      let w = from-calls image insts′ labels′ count (freshAt ip) cs h in (
+        l,
+        refl,
+        runs-are-one-history image (instsOf insts) (labelsOf labels) l bytes e (map request cs) (map result cs)
+            (subst (λ (q : Program). RunsFrom q (fresh l) (map request cs) (map result cs)) p
+            (subst (λ (x : Machine). RunsFrom (program image insts′ labels′ count) x (map request cs) (map result cs)) m w)),
+      )
 
 pub calls-are-one-history : CallsAreOneHistory
 unfolding means

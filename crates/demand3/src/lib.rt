@@ -16,7 +16,15 @@ pub fn load(image: &[u8], insts: &mut [u64], labels: &mut [u64]) -> Loading
 }
 
 // A call of execute_program gives what it asks of a run.
-pub fn run(image: &[u8], insts: &[u64], labels: &[u64], count: usize, m: Machine, limit: u64, dumps: &mut [u64]) -> Ran
+pub fn run(
+    image: &[u8],
+    insts: &[u64],
+    labels: &[u64],
+    count: usize,
+    m: Machine,
+    limit: u64,
+    dumps: &mut [u64],
+) -> Ran
     ensures { λ r. ⌜ ExecuteProgram (now (image .entry)) (now (insts .entry)) (now (labels .entry)) count m limit (now (dumps .entry)) r (now (dumps .exit)) ⌝ }
 {
     run::execute_program(image, insts, labels, count, m, limit, dumps)
