@@ -16,6 +16,7 @@ use filling::link;
 use inst::Inst;
 use machine::Machine;
 pub use reading::next_inst;
+pub use reading::same_name;
 use tables::RECORD;
 
 // The limits of document 01: an image's bytes, its instructions, and the records of a label table.

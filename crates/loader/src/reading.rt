@@ -48,7 +48,7 @@ fn number(d: Decoded) -> u8
 }
 
 // Whether two names are the same bytes.
-fn same_name(a: &[u8], b: &[u8]) -> bool
+pub fn same_name(a: &[u8], b: &[u8]) -> bool
     ensures { λ r. ⌜ r ≡ same (now (a .entry)) (now (b .entry)) ⌝ }
 {
     if a.len() != b.len() {

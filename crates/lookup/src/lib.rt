@@ -55,7 +55,7 @@ fn goes_on(next: u64, bound: usize) -> Walk
             answer: 0,
         }
     } else {
-        answers(2)
+        answers(2) // past the table, or not below the index before
     }
 }
 

@@ -95,11 +95,11 @@ fn follow_executed(
         Executed::Next(next) => Turn::Go(next, flags, n),
         Executed::Compared(next, g) => Turn::Go(next, g, n),
         Executed::Dump(next, cell) => {
-            if n < dumps.len() {
+            if dumps.len() <= n {
+                Turn::End(ends(core, flags, left, n, NUMBER, 33))
+            } else {
                 dump_cell(&mut dumps[n..], cell);
                 Turn::Go(next, flags, n + 1)
-            } else {
-                Turn::End(ends(core, flags, left, n, NUMBER, 33))
             }
         }
         Executed::Halt(last) => Turn::End(ends(last, flags, after, n, HALTED, 0)),

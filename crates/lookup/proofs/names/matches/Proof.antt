@@ -1,15 +1,23 @@
 -- `lookup::names::matches` meets its contract. Assumes nothing.
-use mathlib.Core.Path.{sym}
-use Rattle.lookup.proofs.Bytes.{same-not}
+use Rattle.inst.proofs.Laws.{lent}
 use borrow.Author.Needs.{needs}
 use Rattle.lookup.proofs.names.matches.Statement.{statement}
 use Rattle.lookup.proofs.names.matches.Tie as tie
 
 returns : tie.Need-returns
-returns c = simp (← (c .before .if1 .taken)) (c .same .ensures)
-
-returns-2 : tie.Need-returns-2
-returns-2 c = sym (same-not _ _ _ _ _ (c .before .before .pre .0) (c .before .before .pre .1) (c .if1 .left))
+returns c = simp lent at (c .same-name .ensures)
 
 pub matches-spec : {M : Type 1} → statement M
-matches-spec = tie.close (tie.spec (λ c κs. search needs) returns returns-2)
+matches-spec =
+    tie.close
+    (tie.spec
+    (λ c. search needs)
+    (λ c. search needs)
+    (λ c. search needs)
+    (λ c. search needs)
+    (λ c. search needs)
+    (λ c. search needs)
+    (λ c. search needs)
+    (λ c. search needs)
+    (λ c κs. search needs)
+    returns)
