@@ -7,4 +7,5 @@ mod Ends
 mod Loads
 mod Stores
 mod Fillings
-mod Underway
+pub mod Underway
+mod LentNumbers

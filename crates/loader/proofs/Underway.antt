@@ -1,4 +1,4 @@
--- What holds while a load is under way: the whole call. Assumes nothing.
+-- What holds while a load is under way: the whole call, whatever the slots of the label table are. Assumes nothing.
 use Prim.Native.Nat.{ℕ, _/_, _<_, _≤_}
 use mathlib.Core.Path.{_≡_, refl, ap, sym, _∙_, subst}
 use mathlib.Core.Bool.{Bool, true, false, cond}
@@ -9,101 +9,117 @@ use lib.Seq.{sets}
 use Rattle.inst.proofs.Laws.{never}
 use Rattle.machine.specs.Limits.{instLimit, labelRecords}
 use Rattle.machine.specs.declared.Label.{Label}
-use Rattle.machine.specs.Load.{Scan, begin, Loaded, Load, rejects, accepts, load, fresh}
-use Rattle.tables.specs.Tables.{inst, label, instsOf, labelsOf, numbersOf, instNumbers, labelNumbers}
-use Rattle.tables.proofs.Laws.{length-records}
+use Rattle.machine.specs.Load.{Scan, begin, Loaded, Load, rejects, accepts, fresh}
+use Rattle.tables.specs.Tables.{numbersOf, instNumbers}
 use Rattle.loader.specs.declared.Pending.{Pending}
 use Rattle.loader.specs.declared.Loading.{Loading}
-use Rattle.loader.specs.Loading.{refuses, starts, answerOf, freshAt, means, instsLeft, labelsLeft, loadOf, FromBinary}
-use Rattle.loader.specs.Filling.{linkedAt, Answers, Paused, HasInsts, StopsOrEnds, Begins, Fills}
-use Rattle.loader.proofs.Stores.{label-more}
+use Rattle.loader.specs.Loading.{refuses, starts, answerOf, freshAt, means, instsLeft}
+use Rattle.loader.specs.Filling.{linkedOn, Answers, Paused, HasInsts, StopsOrEnds, Begins, Fills}
 
-module _ (image insts₀ labels₀ : List ℕ) where
+-- the tables lent at entry; the slots that labels take; how many labels there is room for; and what is to be loaded
+module _ {B : Type 0} (image insts₀ : List ℕ) (labels₀ : List B) (slots : List Label → List B) (room : ℕ) (given : Load) where
+  -- the label table with these labels
+  abbrev pub holding : List Label → List B
+  holding ls = sets labels₀ 0 (slots ls)
+
   -- the labels before the one to be linked are in their table
-  pub record Linking (l : Loaded) (p : Pending) (insts labels : List ℕ) : Type 0 where
+  pub record Linking (l : Loaded) (p : Pending) (insts : List ℕ) (labels : List B) : Type 0 where
     pub before : List Label
     pub reached : Scan
     pub paused : Paused image l before reached p
     pub has-insts : HasInsts insts₀ reached insts
-    pub has-labels : labels ≡ sets labels₀ 0 (numbersOf labelNumbers before)
+    pub has-labels : labels ≡ holding before
 
-  pub record Filled (l : Loaded) (insts labels : List ℕ) : Type 0 where
+  pub record Filled (l : Loaded) (insts : List ℕ) (labels : List B) : Type 0 where
     pub all-insts : insts ≡ sets insts₀ 0 (numbersOf instNumbers (l .insts))
-    pub all-labels : labels ≡ sets labels₀ 0 (numbersOf labelNumbers (l .labels))
+    pub all-labels : labels ≡ holding (l .labels)
 
-  unfoldable pub LinkingOrFilled : Bool → Loaded → Pending → List ℕ → List ℕ → Type 0
+  unfoldable pub LinkingOrFilled : Bool → Loaded → Pending → List ℕ → List B → Type 0
   LinkingOrFilled true l p insts labels = Linking l p insts labels
   LinkingOrFilled false l p insts labels = Filled l insts labels
 
-  pub record Unwritten (n : ℕ) (p : Pending) (insts labels : List ℕ) : Type 0 where
+  pub record Unwritten (n : ℕ) (p : Pending) (insts : List ℕ) (labels : List B) : Type 0 where
     pub off : p .on ≡ false
     pub refused-is : p .accepted ≡ false
     pub number-is : p .number ≡ n
     pub insts-same : insts ≡ insts₀
     pub labels-same : labels ≡ labels₀
 
-  unfoldable pub State : Load → Pending → List ℕ → List ℕ → Type 0
+  unfoldable pub State : Load → Pending → List ℕ → List B → Type 0
   State (rejects n) p insts labels = Unwritten n p insts labels
   State (accepts l) p insts labels = Answers l p × LinkingOrFilled (p .on) l p insts labels
 
-  abbrev given : Load
-  given = loadOf image insts₀ labels₀
+  -- where a label is to be linked there is room for it
+  abbrev pub Fits : Pending → Type 0
+  Fits p = p .on ≡ true → (instLimit ≤ length insts₀ / 4) × (labelRecords ≤ room) × (p .count ≤ instLimit) × (p .index < labelRecords)
 
-  pub record Underway (p : Pending) (insts labels : List ℕ) : Type 0 where
+  pub record Underway (p : Pending) (insts : List ℕ) (labels : List B) : Type 0 where
     pub insts-long : length insts ≡ length insts₀
     pub labels-long : length labels ≡ length labels₀
-    pub fits : p .on ≡ true → (instLimit ≤ length insts₀ / 4) × (labelRecords ≤ length labels₀ / 4) × (p .count ≤ instLimit) × (p .index < labelRecords)
+    pub fits : Fits p
     pub state : State given p insts labels
 
+  -- what the label table is at the end
+  unfoldable pub leaves : Load → List B
+  leaves (rejects n) = labels₀
+  leaves (accepts l) = holding (l .labels)
+
+  pub record Ended (r : Loading) (insts : List ℕ) (labels : List B) : Type 0 where
+    pub answers : means r ≡ answerOf given
+    pub insts-are : insts ≡ instsLeft given insts₀
+    pub labels-are : labels ≡ leaves given
+
   -- as it begins
-  begun : (x : Load) (p : Pending) → Begins image x p → State x p insts₀ labels₀
+  begun : (x : Load) (p : Pending) → labels₀ ≡ holding [] → Begins image x p → State x p insts₀ labels₀
   unfolding Begins State LinkingOrFilled numbersOf
-  begun (rejects n) p b = record { off = b .0; refused-is = b .1; number-is = b .2; insts-same = refl; labels-same = refl }
-  begun (accepts l) p b = (
+  begun (rejects n) p e b = record { off = b .0; refused-is = b .1; number-is = b .2; insts-same = refl; labels-same = refl }
+  begun (accepts l) p e b = (
     b .1,
     subst (λ (o : Bool). LinkingOrFilled o l p insts₀ labels₀) (sym (b .0))
-        (record { before = []; reached = begin; paused = b .2; has-insts = refl; has-labels = refl }),
+        (record { before = []; reached = begin; paused = b .2; has-insts = refl; has-labels = e }),
   )
 
   -- a label linked, and on to the next
-  stopped : (o : Bool) (l : Loaded) (ls : List Label) (q : Pending) (insts labels : List ℕ) → StopsOrEnds o image insts₀ l ls q insts → labels ≡ sets labels₀ 0 (numbersOf labelNumbers ls)
+  stopped : (o : Bool) (l : Loaded) (ls : List Label) (q : Pending) (insts : List ℕ) (labels : List B) → StopsOrEnds o image insts₀ l ls q insts → labels ≡ holding ls
       → LinkingOrFilled o l q insts labels
   unfolding StopsOrEnds LinkingOrFilled
   stopped true l ls q insts labels s e = record { before = ls; reached = s .scan; paused = s .paused; has-insts = s .has-insts; has-labels = e }
-  stopped false l ls q insts labels s e = record { all-insts = s .all-insts; all-labels = e ∙ ap (λ (ks : List Label). sets labels₀ 0 (numbersOf labelNumbers ks)) (s .all-labels) }
+  stopped false l ls q insts labels s e = record { all-insts = s .all-insts; all-labels = e ∙ ap holding (s .all-labels) }
 
-  on-linking : (l : Loaded) (p : Pending) (insts labels : List ℕ) → p .on ≡ true → LinkingOrFilled (p .on) l p insts labels → Linking l p insts labels
+  on-linking : (l : Loaded) (p : Pending) (insts : List ℕ) (labels : List B) → p .on ≡ true → LinkingOrFilled (p .on) l p insts labels → Linking l p insts labels
   unfolding LinkingOrFilled
   on-linking l p insts labels o x = subst (λ (b : Bool). LinkingOrFilled b l p insts labels) o x
 
-  linked-on : (x : Load) (p q : Pending) (insts labels insts′ labels′ : List ℕ) → 4 ≤ length labels₀ → p .on ≡ true → State x p insts labels
-      → labels′ ≡ linkedAt labels (p .index) (p .start) (p .len) (p .target) → Fills image insts p q insts′ → State x q insts′ labels′
+  -- the label at hand is linked: whatever labels there are, there is one more
+  abbrev pub Links : Pending → List B → List B → Type 0
+  Links p labels labels′ = (before : List Label) → p .index ≡ length before → labels ≡ holding before → labels′ ≡ holding (linkedOn p before)
+
+  linked-on : (x : Load) (p q : Pending) (insts : List ℕ) (labels : List B) (insts′ : List ℕ) (labels′ : List B) → p .on ≡ true → State x p insts labels
+      → Links p labels labels′ → Fills image insts p q insts′ → State x q insts′ labels′
   unfolding State
-  linked-on (rejects n) p q insts labels insts′ labels′ z o s e f = never (sym (s .off) ∙ o)
-  linked-on (accepts l) p q insts labels insts′ labels′ z o s e f =
+  linked-on (rejects n) p q insts labels insts′ labels′ o s e f = never (sym (s .off) ∙ o)
+  linked-on (accepts l) p q insts labels insts′ labels′ o s e f =
       let k = on-linking l p insts labels o (s .1) in
       let a = f .leads insts₀ l (k .before) (k .reached) (s .0) (k .paused) (k .has-insts) in
-      let t : labels′ ≡ sets labels₀ 0 (numbersOf labelNumbers (k .reached .labels)) =
-      e ∙ label-more labels₀ labels p (k .before) z (k .paused .index-is) (k .has-labels)
-      ∙ ap (λ (ks : List Label). sets labels₀ 0 (numbersOf labelNumbers ks)) (sym (k .paused .labels-are)) in
+      let t : labels′ ≡ holding (k .reached .labels) = e (k .before) (k .paused .index-is) (k .has-labels) ∙ ap holding (sym (k .paused .labels-are)) in
       (a .0, stopped (q .on) l (k .reached .labels) q insts′ labels′ (a .1) t)
 
   -- as it ends
-  off-filled : (l : Loaded) (p : Pending) (insts labels : List ℕ) → p .on ≡ false → LinkingOrFilled (p .on) l p insts labels → Filled l insts labels
+  off-filled : (l : Loaded) (p : Pending) (insts : List ℕ) (labels : List B) → p .on ≡ false → LinkingOrFilled (p .on) l p insts labels → Filled l insts labels
   unfolding LinkingOrFilled
   off-filled l p insts labels o x = subst (λ (b : Bool). LinkingOrFilled b l p insts labels) o x
 
-  ends-insts : (x : Load) (p : Pending) (insts labels : List ℕ) → p .on ≡ false → State x p insts labels → insts ≡ instsLeft x insts₀
+  ends-insts : (x : Load) (p : Pending) (insts : List ℕ) (labels : List B) → p .on ≡ false → State x p insts labels → insts ≡ instsLeft x insts₀
   unfolding State instsLeft
   ends-insts (rejects n) p insts labels o s = s .insts-same
   ends-insts (accepts l) p insts labels o s = off-filled l p insts labels o (s .1) .all-insts
 
-  ends-labels : (x : Load) (p : Pending) (insts labels : List ℕ) → p .on ≡ false → State x p insts labels → labels ≡ labelsLeft x labels₀
-  unfolding State labelsLeft
+  ends-labels : (x : Load) (p : Pending) (insts : List ℕ) (labels : List B) → p .on ≡ false → State x p insts labels → labels ≡ leaves x
+  unfolding State leaves
   ends-labels (rejects n) p insts labels o s = s .labels-same
   ends-labels (accepts l) p insts labels o s = off-filled l p insts labels o (s .1) .all-labels
 
-  ends-answer : (x : Load) (p : Pending) (insts labels : List ℕ) → State x p insts labels
+  ends-answer : (x : Load) (p : Pending) (insts : List ℕ) (labels : List B) → State x p insts labels
       → cond (p .accepted) (starts (freshAt (p .ip)) (p .count)) (refuses (p .number)) ≡ answerOf x
   unfolding State answerOf freshAt fresh
   ends-answer (rejects n) p insts labels s =
@@ -116,29 +132,23 @@ module _ (image insts₀ labels₀ : List ℕ) where
       let c = s .0 .count-is in
       ap (λ (o : Bool). cond o (starts (freshAt (p .ip)) (p .count)) (refuses (p .number))) a ∙ ap (λ (n : ℕ). starts (freshAt n) (p .count)) b ∙ ap (starts (fresh l)) c
 
-  pub underway-begins : (p : Pending)
-      → (length (instsOf insts₀) ≡ length insts₀ / 4 → length (labelsOf labels₀) ≡ length labels₀ / 4 → Begins image given p)
-      → (p .on ≡ true → (instLimit ≤ length insts₀ / 4) × (labelRecords ≤ length labels₀ / 4) × (p .count ≤ instLimit) × (p .index < labelRecords))
-      → Underway p insts₀ labels₀
-  underway-begins p b f =
-      record { insts-long = refl; labels-long = refl; fits = f; state = begun given p (b (length-records inst insts₀) (length-records label labels₀)) }
+  pub underway-begins : (p : Pending) → labels₀ ≡ holding [] → Begins image given p → Fits p → Underway p insts₀ labels₀
+  underway-begins p e b f = record { insts-long = refl; labels-long = refl; fits = f; state = begun given p e b }
 
-  pub underway-on : (p q : Pending) (insts labels insts′ labels′ : List ℕ) → p .on ≡ true → Underway p insts labels
-      → labels′ ≡ linkedAt labels (p .index) (p .start) (p .len) (p .target) → Fills image insts p q insts′ → length insts′ ≡ length insts → length labels′ ≡ length labels
-      → Underway q insts′ labels′
+  pub underway-on : (p q : Pending) (insts : List ℕ) (labels : List B) (insts′ : List ℕ) (labels′ : List B) → p .on ≡ true → Underway p insts labels
+      → Links p labels labels′ → Fills image insts p q insts′ → length insts′ ≡ length insts → length labels′ ≡ length labels → Underway q insts′ labels′
   underway-on p q insts labels insts′ labels′ o u e f i j =
       let k = u .fits o in
-      let z : 4 ≤ length labels₀ = omega (arith, k .1) in
       let n : q .count ≤ instLimit = omega (arith, k .2, f .count-same) in
       record {
         insts-long = i ∙ u .insts-long;
         labels-long = j ∙ u .labels-long;
         fits = λ o′. (k .0, k .1, n, f .index-fits o′);
-        state = linked-on given p q insts labels insts′ labels′ z o (u .state) e f;
+        state = linked-on given p q insts labels insts′ labels′ o (u .state) e f;
       }
 
-  pub underway-ends : (p : Pending) (insts labels : List ℕ) (r : Loading) → p .on ≡ false → Underway p insts labels
-      → means r ≡ cond (p .accepted) (starts (freshAt (p .ip)) (p .count)) (refuses (p .number)) → FromBinary image insts₀ labels₀ r insts labels
+  pub underway-ends : (p : Pending) (insts : List ℕ) (labels : List B) (r : Loading) → p .on ≡ false → Underway p insts labels
+      → means r ≡ cond (p .accepted) (starts (freshAt (p .ip)) (p .count)) (refuses (p .number)) → Ended r insts labels
   underway-ends p insts labels r o u e =
       record {
         answers = e ∙ ends-answer given p insts labels (u .state);

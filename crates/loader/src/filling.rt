@@ -1,5 +1,6 @@
 // The second pass: the records of an accepted image into tables that have room. The filling stops at each LABEL, so that only
-// `link` and its caller hold the label table.
+// `link` and its caller hold the label table. Only our own crates call `begin`, `fill` and `answer`, in the order of
+// from_binary: crate label_loader does it with a label table of another kind.
 ghost use mathlib.Core.Path.{_≡_};
 ghost use mathlib.Core.Bool.{true, false, cond};
 ghost use mathlib.Core.List.{List};

@@ -9,9 +9,9 @@ mod filling;
 mod reading;
 
 pub use checking::check;
-use filling::answer;
-use filling::begin;
-use filling::fill;
+pub use filling::answer;
+pub use filling::begin;
+pub use filling::fill;
 use filling::link;
 use inst::Inst;
 use machine::Machine;
@@ -59,7 +59,7 @@ pub enum Next {
 }
 
 // A load that is under way: the answer; what was read and filled; and, where it is on, the label record that is to be linked.
-struct Pending {
+pub struct Pending {
     pub on: bool,
     pub accepted: bool,
     pub number: u8,

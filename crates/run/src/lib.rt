@@ -161,32 +161,35 @@ pub fn pack(
     stack: [u64; STACK_LIMIT],
     calls: [u64; CALL_LIMIT],
     memory: [u8; MEMORY_SIZE],
-    o: Progress,
+    progress: Progress,
     limit: u64,
 ) -> Ran
-    requires { ⌜ o .left ≤ limit ⌝ }
-    ensures { λ r. ⌜ r ≡ record { machine = whole (o .core) (o .flags) stack calls memory (eqb (o .ending) 0); ending = endingOf (o .ending) (o .number); steps = limit - o .left; dumped = o .dumped } ⌝ }
+    requires { ⌜ progress .left ≤ limit ⌝ }
+    ensures { λ r. ⌜ r ≡ record { machine = whole (progress .core) (progress .flags) stack calls memory (eqb (progress .ending) 0); ending = endingOf (progress .ending) (progress .number); steps = limit - progress .left; dumped = progress .dumped } ⌝ }
 {
-    let core = o.core;
+    let core = progress.core;
     let machine = Machine {
         stack: stack,
         height: core.height,
         calls: calls,
         call_height: core.call_height,
         memory: memory,
-        flags: o.flags,
+        flags: progress.flags,
         ip: core.ip,
-        halted: o.ending == HALTED,
+        halted: progress.ending == HALTED,
     };
-    let last = ending(o.ending, o.number);
+    let last = ending(progress.ending, progress.number);
     Ran {
         machine: machine,
         ending: last,
-        steps: limit - o.left,
-        dumped: o.dumped,
+        steps: limit - progress.left,
+        dumped: progress.dumped,
     }
 }
 
+// The run: the arrays in locals, which no step copies; then, as long as it goes on, a lookup and the steps up to the next
+// one. `steps` and the functions that it calls have one caller each, or the compiler no longer makes one loop of them (15 to
+// 20 ns a step).
 pub fn execute_program(
     image: &[u8],
     insts: &[u64],
@@ -208,14 +211,14 @@ pub fn execute_program(
     let mut memory = m.memory;
     let mut keys = [UNKNOWN; KNOWN_LIMIT];
     let mut targets = [0u16; KNOWN_LIMIT];
-    let mut o = begin(insts, count, core, m.flags, m.halted, limit);
-    while o.on {
-        let found = lookup(image, labels, count, o.start, o.len);
-        o = steps(
+    let mut progress = begin(insts, count, core, m.flags, m.halted, limit);
+    while progress.on {
+        let found = lookup(image, labels, count, progress.start, progress.len);
+        progress = steps(
             image,
             insts,
             count,
-            o,
+            progress,
             found,
             &mut stack,
             &mut calls,
@@ -225,5 +228,5 @@ pub fn execute_program(
             dumps,
         );
     }
-    pack(stack, calls, memory, o, limit)
+    pack(stack, calls, memory, progress, limit)
 }

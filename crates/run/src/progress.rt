@@ -11,8 +11,8 @@ use step_core::Core;
 use step_core::Executed;
 
 // What changes beside the arrays: the machine's numbers, the steps that are left and the cells dumped so far. The run
-// goes on, and asks for the lookup of the name at `start`; or it is over. The ending is in numbers: the functions above
-// carry a Progress from turn to turn.
+// goes on, and asks for the lookup of the name at `start`; or it is over. The ending is in numbers, so that a Progress is
+// numbers alone.
 pub struct Progress {
     pub core: Core,
     pub flags: u8,

@@ -14,7 +14,7 @@ fourth : (i : ℕ) → suc i * 4 ≡ suc (suc (suc (suc (i * 4))))
 fourth i = omega arith
 
 -- stores behind the first number, and behind the first record
-sets-behind : {A : Type 0} (x : A) (l vs : List A) (i : ℕ) → sets (x ∷ l) (suc i) vs ≡ x ∷ sets l i vs
+pub sets-behind : {A : Type 0} (x : A) (l vs : List A) (i : ℕ) → sets (x ∷ l) (suc i) vs ≡ x ∷ sets l i vs
 sets-behind x l [] i = refl
 sets-behind x l (v ∷ vs) i = sets-behind x (set l i v) vs (suc i)
 

@@ -11,13 +11,13 @@ use Rattle.run.proofs.execute_program.Statement.{statement}
 use Rattle.run.proofs.execute_program.Tie as tie
 
 abbrev Inv-loop : tie.InvT-loop
-Inv-loop image insts labels count limit dumps₀ stack₀ calls₀ memory₀ keys₀ targets₀ o₀ dumps stack calls memory keys targets o =
+Inv-loop image insts labels count limit dumps₀ stack₀ calls₀ memory₀ keys₀ targets₀ progress₀ dumps stack calls memory keys targets progress =
     (length image < 2 ^ 64)
-    × ((run : Course) → Stands (program image insts labels count) insts dumps₀ limit run o₀ dumps₀ keys₀ targets₀ stack₀ calls₀ memory₀ →
-    Stands (program image insts labels count) insts dumps₀ limit run o dumps keys targets stack calls memory)
+    × ((run : Course) → Stands (program image insts labels count) insts dumps₀ limit run progress₀ dumps₀ keys₀ targets₀ stack₀ calls₀ memory₀ →
+    Stands (program image insts labels count) insts dumps₀ limit run progress dumps keys targets stack calls memory)
 
 abbrev μ-loop : tie.MeasureT-loop
-μ-loop image insts labels count limit dumps₀ stack₀ calls₀ memory₀ keys₀ targets₀ o₀ dumps stack calls memory keys targets o = weight image o
+μ-loop image insts labels count limit dumps₀ stack₀ calls₀ memory₀ keys₀ targets₀ progress₀ dumps stack calls memory keys targets progress = weight image progress
 
 loop-holds : tie.Need-loop-holds Inv-loop μ-loop
 loop-holds c = (search needs, λ run st. st)

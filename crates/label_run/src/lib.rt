@@ -1,0 +1,104 @@
+// The lookup and the run over a label table that is a slice of records. The lookup reads one record each turn, and crate
+// lookup's `judge` decides on it; the run is crate run's, which stops where it needs a lookup. Proved by hand: the borrow
+// checker covers no reference to a struct.
+ghost use mathlib.Core.Path.{_≡_};
+ghost use mathlib.Core.List.{List};
+ghost use Rattle.inst.specs.declared.Inst.{Inst};
+ghost use Rattle.machine.specs.Run as definition;
+ghost use Rattle.tables.specs.Tables.{instsOf};
+ghost use Rattle.lookup.specs.Walks.{lent, Finds};
+ghost use Rattle.run.specs.Runs.{answer};
+ghost use Rattle.label_run.specs.InPlace.{answerInPlace};
+use lookup::judge;
+use machine::Ending;
+use machine::Label;
+use machine::Machine;
+use quick::KNOWN_LIMIT;
+use quick::UNKNOWN;
+use run::Ran;
+use run::begin;
+use run::pack;
+use run::steps;
+use step_core::Core;
+
+// What the lookup of a name finds, as crate lookup's says it.
+pub fn lookup(image: &[u8], labels: &[Label], count: usize, start: u64, len: u64) -> u64
+    ensures { λ r. ⌜ ((insts : List Inst) → Finds (lent (now (image .entry)) insts (now (labels .entry)) count) start len r) ⌝ }
+{
+    let mut w = lookup::begin(image, labels.len(), start, len);
+    while w.on {
+        let l = labels[w.at];
+        w = judge(image, count, w, l, start, len);
+    }
+    w.answer
+}
+
+// A run over the machine by value, as crate run's execute_program.
+pub fn execute_program(
+    image: &[u8],
+    insts: &[u64],
+    labels: &[Label],
+    count: usize,
+    m: Machine,
+    limit: u64,
+    dumps: &mut [u64],
+) -> Ran
+    ensures { λ r. ⌜ answer r (now (dumps .exit)) ≡ definition.run (lent (now (image .entry)) (instsOf (now (insts .entry))) (now (labels .entry)) count) limit (now (dumps .entry)) m ⌝ }
+{
+    let core = Core {
+        ip: m.ip,
+        height: m.height,
+        call_height: m.call_height,
+    };
+    let mut stack = m.stack;
+    let mut calls = m.calls;
+    let mut memory = m.memory;
+    let mut keys = [UNKNOWN; KNOWN_LIMIT];
+    let mut targets = [0u16; KNOWN_LIMIT];
+    let mut o = begin(insts, count, core, m.flags, m.halted, limit);
+    while o.on {
+        let found = lookup(image, labels, count, o.start, o.len);
+        o = steps(
+            image,
+            insts,
+            count,
+            o,
+            found,
+            &mut stack,
+            &mut calls,
+            &mut memory,
+            &mut keys,
+            &mut targets,
+            dumps,
+        );
+    }
+    pack(stack, calls, memory, o, limit)
+}
+
+// What a run in place reports.
+pub struct Report {
+    pub ending: Ending,
+    pub steps: u64,
+    pub dumped: usize,
+}
+
+// A run over a machine that is lent: the machine that the run leaves stands in its place.
+pub fn execute_in_place(
+    image: &[u8],
+    insts: &[u64],
+    labels: &[Label],
+    count: usize,
+    m: &mut Machine,
+    limit: u64,
+    dumps: &mut [u64],
+) -> Report
+    ensures { λ r. ⌜ answerInPlace r (now (m .exit)) (now (dumps .exit)) ≡ definition.run (lent (now (image .entry)) (instsOf (now (insts .entry))) (now (labels .entry)) count) limit (now (dumps .entry)) (now (m .entry)) ⌝ }
+{
+    let r = execute_program(image, insts, labels, count, *m, limit, dumps);
+    *m = r.machine;
+    Report {
+        ending: r.ending,
+        steps: r.steps,
+        dumped: r.dumped,
+    }
+}
