@@ -6,7 +6,7 @@ IMAGE ?= crates/runimage/stdin
 run:
 	@mkdir -p target
 	@rt check runimage > target/run.log 2>&1 || { cat target/run.log; exit 1; }
-	@./runimage < $(IMAGE)
+	@bin/runimage < $(IMAGE)
 
 # `rt ci` is the last act, so that its count is the last line. It removes target/ first: what needs compiled crates runs before it.
 test: oracle images
@@ -21,4 +21,4 @@ oracle:
 images:
 	rt check runimage
 	rustc -O --edition 2021 -D warnings -o target/oracle-images oracle/images.rs
-	target/oracle-images ./runimage oracle/images.txt
+	target/oracle-images bin/runimage oracle/images.txt

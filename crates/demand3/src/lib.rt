@@ -1,8 +1,11 @@
 // Demand 3 of the code. No behaviour of its own: `load` and `run` hold the statement's hypotheses to the calls.
+ghost use mathlib.Core.Path.{_≡_};
 ghost use Rattle.inst.specs.Records.{Bytes};
+ghost use Rattle.machine.specs.Run as definition;
+ghost use Rattle.tables.specs.Tables.{program};
 ghost use Rattle.loader.specs.Loading.{FromBinary};
-ghost use Rattle.run.specs.Runs.{ExecuteProgram};
-ghost use Rattle.demand3.specs.Calls.{CallsAreOneHistory};
+ghost use Rattle.run.specs.Runs.{answer};
+ghost use Rattle.demand3.specs.Calls.{Demand3};
 use loader::Loading;
 use machine::Machine;
 use run::Ran;
@@ -25,12 +28,12 @@ pub fn run(
     limit: u64,
     dumps: &mut [u64],
 ) -> Ran
-    ensures { λ r. ⌜ ExecuteProgram (now (image .entry)) (now (insts .entry)) (now (labels .entry)) count m limit (now (dumps .entry)) r (now (dumps .exit)) ⌝ }
+    ensures { λ r. ⌜ answer r (now (dumps .exit)) ≡ definition.run (program (now (image .entry)) (now (insts .entry)) (now (labels .entry)) count) limit (now (dumps .entry)) m ⌝ }
 {
     run::execute_program(image, insts, labels, count, m, limit, dumps)
 }
 
 // No code: its contract states demand 3 of any list of such calls.
 pub fn demand_3()
-    ensures { λ _. ⌜ CallsAreOneHistory ⌝ }
+    ensures { λ _. ⌜ Demand3 ⌝ }
 {}

@@ -21,7 +21,8 @@ use run::pack;
 use run::steps;
 use step_core::Core;
 
-// What the lookup of a name finds, as crate lookup's says it.
+// What the lookup of a name finds, in crate lookup's numbers: 1 no such label in the program, 2 a chain that 34 names, 3 + t
+// the target t; 0 where the name doesn't lie in the image.
 pub fn lookup(image: &[u8], labels: &[Label], count: usize, start: u64, len: u64) -> u64
     ensures { λ r. ⌜ ((insts : List Inst) → Finds (lent (now (image .entry)) insts (now (labels .entry)) count) start len r) ⌝ }
 {
@@ -55,14 +56,14 @@ pub fn execute_program(
     let mut memory = m.memory;
     let mut keys = [UNKNOWN; KNOWN_LIMIT];
     let mut targets = [0u16; KNOWN_LIMIT];
-    let mut o = begin(insts, count, core, m.flags, m.halted, limit);
-    while o.on {
-        let found = lookup(image, labels, count, o.start, o.len);
-        o = steps(
+    let mut progress = begin(insts, count, core, m.flags, m.halted, limit);
+    while progress.on {
+        let found = lookup(image, labels, count, progress.start, progress.len);
+        progress = steps(
             image,
             insts,
             count,
-            o,
+            progress,
             found,
             &mut stack,
             &mut calls,
@@ -72,7 +73,7 @@ pub fn execute_program(
             dumps,
         );
     }
-    pack(stack, calls, memory, o, limit)
+    pack(stack, calls, memory, progress, limit)
 }
 
 // What a run in place reports.

@@ -312,7 +312,12 @@ module _ {M : Type 1} (𝓤 : URA M) (H : Heap 𝓤) (A : Atoms 𝓤) (W : Given
     -- where a turn begins: the buffer and its token, the image, the instructions and the labels with theirs, and the locals from the last one on
     abbrev At : List ℕ → Progress → List ℕ → List ℕ → List ℕ → List ℕ → List ℕ → List (Item 𝓤)
     At d o stack calls memory keys targets = ‵ (Dumps d (sv d)) ∷ ‵ (flft κ₃ q₃) ∷ ‵ Image ∷ ‵ (flft κ₀ q₀) ∷ ‵ Insts ∷ ‵ (flft κ₁ q₁) ∷ ‵ Labels ∷ ‵ (flft κ₂ q₂)
-        ∷ ‵ (froom (tyArray (tyInt w8) 1024) l₂₆ 0) ∷ ‵ (fdies (tyArray (tyInt w8) 1024) l₂₆) ∷ ‵ (froom (tyArray (tyInt w64) 1024) l₂₅ 0) ∷ ‵ (fdies (tyArray (tyInt w64) 1024) l₂₅) ∷ ‵ (froom (tyArray (tyInt w64) 1024) l₂₄ 0) ∷ ‵ (fdies (tyArray (tyInt w64) 1024) l₂₄) ∷ ‵ (froom (sliceTy thin) l₂₃ 0) ∷ ‵ (fdies (sliceTy thin) l₂₃) ∷ ‵ (froom thin l₂₂ 0) ∷ ‵ (fdies thin l₂₂) ∷ ‵ (froom (tyRef erased mut (tyArray (tyInt w16) 4096)) l₂₁ 0) ∷ ‵ (fdies (tyRef erased mut (tyArray (tyInt w16) 4096)) l₂₁) ∷ ‵ (froom (tyRef erased mut (tyArray (tyInt w8) 4096)) l₂₀ 0) ∷ ‵ (fdies (tyRef erased mut (tyArray (tyInt w8) 4096)) l₂₀) ∷ ‵ (froom (tyRef erased mut (tyArray (tyInt w8) 1024)) l₁₉ 0) ∷ ‵ (fdies (tyRef erased mut (tyArray (tyInt w8) 1024)) l₁₉) ∷ ‵ (froom (tyRef erased mut (tyArray (tyInt w64) 1024)) l₁₈ 0) ∷ ‵ (fdies (tyRef erased mut (tyArray (tyInt w64) 1024)) l₁₈) ∷ ‵ (froom (tyRef erased mut (tyArray (tyInt w64) 1024)) l₁₇ 0) ∷ ‵ (fdies (tyRef erased mut (tyArray (tyInt w64) 1024)) l₁₇) ∷ ‵ (froom tyBool l₁₆ 0) ∷ ‵ (fdies tyBool l₁₆) ∷ ‵ (froom word l₁₅ 0) ∷ ‵ (fdies word l₁₅) ∷ ‵ (fat fullShare Pg′.mir l₁₄ 0 (ov o)) ∷ ‵ (fdies Pg′.mir l₁₄) ∷ ‵ (fat fullShare (tyArray (tyInt w16) 4096) l₁₃ 0 (numbers w16 4096 targets)) ∷ ‵ (fdies (tyArray (tyInt w16) 4096) l₁₃) ∷ ‵ (fat fullShare (tyArray (tyInt w8) 4096) l₁₂ 0 (numbers w8 4096 keys)) ∷ ‵ (fdies (tyArray (tyInt w8) 4096) l₁₂) ∷ ‵ (fat fullShare (tyArray (tyInt w8) 1024) l₁₁ 0 (numbers w8 1024 memory)) ∷ ‵ (fdies (tyArray (tyInt w8) 1024) l₁₁) ∷ ‵ (fat fullShare (tyArray (tyInt w64) 1024) l₁₀ 0 (numbers w64 1024 calls)) ∷ ‵ (fdies (tyArray (tyInt w64) 1024) l₁₀) ∷ ‵ (fat fullShare (tyArray (tyInt w64) 1024) l₉ 0 (numbers w64 1024 stack)) ∷ ‵ (fdies (tyArray (tyInt w64) 1024) l₉) ∷ ‵ (fat fullShare Co′.mir l₈ 0 (cv (core m))) ∷ ‵ (fdies Co′.mir l₈) ∷ ‵ (fat fullShare cells l₇ 0 (sv d)) ∷ ‵ (fdies cells l₇) ∷ ‵ (fat fullShare word l₆ 0 (vint w64 limit)) ∷ ‵ (fdies word l₆) ∷ ‵ (fat fullShare Mc′.mir l₅ 0 mv) ∷ ‵ (fdies Mc′.mir l₅) ∷ ‵ (fat fullShare word l₄ 0 (vint w64 c)) ∷ ‵ (fdies word l₄) ∷ ‵ (fat fullShare slice l₃ 0 lv) ∷ ‵ (fdies slice l₃) ∷ ‵ (fat fullShare words l₂ 0 iv) ∷ ‵ (fdies words l₂) ∷ ‵ (fat fullShare bytes l₁ 0 gv) ∷ ‵ (fdies bytes l₁) ∷ ‵ (froom Rn′.mir l₀ 0) ∷ ‵ (fdies Rn′.mir l₀) ∷ []
+        ∷ ‵ (froom (tyArray (tyInt w8) 1024) l₂₆ 0) ∷ ‵ (fdies (tyArray (tyInt w8) 1024) l₂₆) ∷ ‵ (froom (tyArray (tyInt w64) 1024) l₂₅ 0) ∷ ‵ (fdies (tyArray (tyInt w64) 1024) l₂₅) ∷ ‵ (froom (tyArray (tyInt w64) 1024) l₂₄ 0) ∷ ‵ (fdies (tyArray (tyInt w64) 1024) l₂₄) ∷ ‵ (froom (sliceTy thin) l₂₃ 0) ∷ ‵ (fdies (sliceTy thin) l₂₃) ∷ ‵ (froom thin l₂₂ 0) ∷ ‵ (fdies thin l₂₂)
+        ∷ ‵ (froom (tyRef erased mut (tyArray (tyInt w16) 4096)) l₂₁ 0) ∷ ‵ (fdies (tyRef erased mut (tyArray (tyInt w16) 4096)) l₂₁) ∷ ‵ (froom (tyRef erased mut (tyArray (tyInt w8) 4096)) l₂₀ 0) ∷ ‵ (fdies (tyRef erased mut (tyArray (tyInt w8) 4096)) l₂₀) ∷ ‵ (froom (tyRef erased mut (tyArray (tyInt w8) 1024)) l₁₉ 0) ∷ ‵ (fdies (tyRef erased mut (tyArray (tyInt w8) 1024)) l₁₉) ∷ ‵ (froom (tyRef erased mut (tyArray (tyInt w64) 1024)) l₁₈ 0) ∷ ‵ (fdies (tyRef erased mut (tyArray (tyInt w64) 1024)) l₁₈) ∷ ‵ (froom (tyRef erased mut (tyArray (tyInt w64) 1024)) l₁₇ 0) ∷ ‵ (fdies (tyRef erased mut (tyArray (tyInt w64) 1024)) l₁₇)
+        ∷ ‵ (froom tyBool l₁₆ 0) ∷ ‵ (fdies tyBool l₁₆) ∷ ‵ (froom word l₁₅ 0) ∷ ‵ (fdies word l₁₅) ∷ ‵ (fat fullShare Pg′.mir l₁₄ 0 (ov o)) ∷ ‵ (fdies Pg′.mir l₁₄) ∷ ‵ (fat fullShare (tyArray (tyInt w16) 4096) l₁₃ 0 (numbers w16 4096 targets)) ∷ ‵ (fdies (tyArray (tyInt w16) 4096) l₁₃) ∷ ‵ (fat fullShare (tyArray (tyInt w8) 4096) l₁₂ 0 (numbers w8 4096 keys)) ∷ ‵ (fdies (tyArray (tyInt w8) 4096) l₁₂)
+        ∷ ‵ (fat fullShare (tyArray (tyInt w8) 1024) l₁₁ 0 (numbers w8 1024 memory)) ∷ ‵ (fdies (tyArray (tyInt w8) 1024) l₁₁) ∷ ‵ (fat fullShare (tyArray (tyInt w64) 1024) l₁₀ 0 (numbers w64 1024 calls)) ∷ ‵ (fdies (tyArray (tyInt w64) 1024) l₁₀) ∷ ‵ (fat fullShare (tyArray (tyInt w64) 1024) l₉ 0 (numbers w64 1024 stack)) ∷ ‵ (fdies (tyArray (tyInt w64) 1024) l₉) ∷ ‵ (fat fullShare Co′.mir l₈ 0 (cv (core m))) ∷ ‵ (fdies Co′.mir l₈) ∷ ‵ (fat fullShare cells l₇ 0 (sv d)) ∷ ‵ (fdies cells l₇)
+        ∷ ‵ (fat fullShare word l₆ 0 (vint w64 limit)) ∷ ‵ (fdies word l₆) ∷ ‵ (fat fullShare Mc′.mir l₅ 0 mv) ∷ ‵ (fdies Mc′.mir l₅) ∷ ‵ (fat fullShare word l₄ 0 (vint w64 c)) ∷ ‵ (fdies word l₄) ∷ ‵ (fat fullShare slice l₃ 0 lv) ∷ ‵ (fdies slice l₃) ∷ ‵ (fat fullShare words l₂ 0 iv) ∷ ‵ (fdies words l₂)
+        ∷ ‵ (fat fullShare bytes l₁ 0 gv) ∷ ‵ (fdies bytes l₁) ∷ ‵ (froom Rn′.mir l₀ 0) ∷ ‵ (fdies Rn′.mir l₀) ∷ []
 
     abbrev I : St → List (Item 𝓤)
     I t = At (t .0 .dumps) (t .0 .o) (t .0 .stack) (t .0 .calls) (t .0 .memory) (t .0 .keys) (t .0 .targets)
@@ -456,7 +461,12 @@ module _ {M : Type 1} (𝓤 : URA M) (H : Heap 𝓤) (A : Atoms 𝓤) (W : Given
 
     -- where the walk comes to the code
     abbrev Before : List (Item 𝓤)
-    Before = ‵ (Dumps d₀ (sv d₀)) ∷ ‵ (flft κ₃ q₃) ∷ ‵ Image ∷ ‵ (flft κ₀ q₀) ∷ ‵ Insts ∷ ‵ (flft κ₁ q₁) ∷ ‵ Labels ∷ ‵ (flft κ₂ q₂) ∷ ‵ (froom (tyArray (tyInt w8) 1024) l₂₆ 0) ∷ ‵ (fdies (tyArray (tyInt w8) 1024) l₂₆) ∷ ‵ (froom (tyArray (tyInt w64) 1024) l₂₅ 0) ∷ ‵ (fdies (tyArray (tyInt w64) 1024) l₂₅) ∷ ‵ (froom (tyArray (tyInt w64) 1024) l₂₄ 0) ∷ ‵ (fdies (tyArray (tyInt w64) 1024) l₂₄) ∷ ‵ (froom (sliceTy thin) l₂₃ 0) ∷ ‵ (fdies (sliceTy thin) l₂₃) ∷ ‵ (froom thin l₂₂ 0) ∷ ‵ (fdies thin l₂₂) ∷ ‵ (froom (tyRef erased mut (tyArray (tyInt w16) 4096)) l₂₁ 0) ∷ ‵ (fdies (tyRef erased mut (tyArray (tyInt w16) 4096)) l₂₁) ∷ ‵ (froom (tyRef erased mut (tyArray (tyInt w8) 4096)) l₂₀ 0) ∷ ‵ (fdies (tyRef erased mut (tyArray (tyInt w8) 4096)) l₂₀) ∷ ‵ (froom (tyRef erased mut (tyArray (tyInt w8) 1024)) l₁₉ 0) ∷ ‵ (fdies (tyRef erased mut (tyArray (tyInt w8) 1024)) l₁₉) ∷ ‵ (froom (tyRef erased mut (tyArray (tyInt w64) 1024)) l₁₈ 0) ∷ ‵ (fdies (tyRef erased mut (tyArray (tyInt w64) 1024)) l₁₈) ∷ ‵ (froom (tyRef erased mut (tyArray (tyInt w64) 1024)) l₁₇ 0) ∷ ‵ (fdies (tyRef erased mut (tyArray (tyInt w64) 1024)) l₁₇) ∷ ‵ (froom tyBool l₁₆ 0) ∷ ‵ (fdies tyBool l₁₆) ∷ ‵ (froom word l₁₅ 0) ∷ ‵ (fdies word l₁₅) ∷ ‵ (froom Pg′.mir l₁₄ 0) ∷ ‵ (fdies Pg′.mir l₁₄) ∷ ‵ (froom (tyArray (tyInt w16) 4096) l₁₃ 0) ∷ ‵ (fdies (tyArray (tyInt w16) 4096) l₁₃) ∷ ‵ (froom (tyArray (tyInt w8) 4096) l₁₂ 0) ∷ ‵ (fdies (tyArray (tyInt w8) 4096) l₁₂) ∷ ‵ (froom (tyArray (tyInt w8) 1024) l₁₁ 0) ∷ ‵ (fdies (tyArray (tyInt w8) 1024) l₁₁) ∷ ‵ (froom (tyArray (tyInt w64) 1024) l₁₀ 0) ∷ ‵ (fdies (tyArray (tyInt w64) 1024) l₁₀) ∷ ‵ (froom (tyArray (tyInt w64) 1024) l₉ 0) ∷ ‵ (fdies (tyArray (tyInt w64) 1024) l₉) ∷ ‵ (froom Co′.mir l₈ 0) ∷ ‵ (fdies Co′.mir l₈) ∷ ‵ (fat fullShare cells l₇ 0 (sv d₀)) ∷ ‵ (fdies cells l₇) ∷ ‵ (fat fullShare word l₆ 0 (vint w64 limit)) ∷ ‵ (fdies word l₆) ∷ ‵ (fat fullShare Mc′.mir l₅ 0 mv) ∷ ‵ (fdies Mc′.mir l₅) ∷ ‵ (fat fullShare word l₄ 0 (vint w64 c)) ∷ ‵ (fdies word l₄) ∷ ‵ (fat fullShare slice l₃ 0 lv) ∷ ‵ (fdies slice l₃) ∷ ‵ (fat fullShare words l₂ 0 iv) ∷ ‵ (fdies words l₂) ∷ ‵ (fat fullShare bytes l₁ 0 gv) ∷ ‵ (fdies bytes l₁) ∷ ‵ (froom Rn′.mir l₀ 0) ∷ ‵ (fdies Rn′.mir l₀) ∷ []
+    Before = ‵ (Dumps d₀ (sv d₀)) ∷ ‵ (flft κ₃ q₃) ∷ ‵ Image ∷ ‵ (flft κ₀ q₀) ∷ ‵ Insts ∷ ‵ (flft κ₁ q₁) ∷ ‵ Labels ∷ ‵ (flft κ₂ q₂) ∷ ‵ (froom (tyArray (tyInt w8) 1024) l₂₆ 0) ∷ ‵ (fdies (tyArray (tyInt w8) 1024) l₂₆) ∷ ‵ (froom (tyArray (tyInt w64) 1024) l₂₅ 0) ∷ ‵ (fdies (tyArray (tyInt w64) 1024) l₂₅) ∷ ‵ (froom (tyArray (tyInt w64) 1024) l₂₄ 0) ∷ ‵ (fdies (tyArray (tyInt w64) 1024) l₂₄) ∷ ‵ (froom (sliceTy thin) l₂₃ 0) ∷ ‵ (fdies (sliceTy thin) l₂₃) ∷ ‵ (froom thin l₂₂ 0) ∷ ‵ (fdies thin l₂₂)
+        ∷ ‵ (froom (tyRef erased mut (tyArray (tyInt w16) 4096)) l₂₁ 0) ∷ ‵ (fdies (tyRef erased mut (tyArray (tyInt w16) 4096)) l₂₁) ∷ ‵ (froom (tyRef erased mut (tyArray (tyInt w8) 4096)) l₂₀ 0) ∷ ‵ (fdies (tyRef erased mut (tyArray (tyInt w8) 4096)) l₂₀) ∷ ‵ (froom (tyRef erased mut (tyArray (tyInt w8) 1024)) l₁₉ 0) ∷ ‵ (fdies (tyRef erased mut (tyArray (tyInt w8) 1024)) l₁₉) ∷ ‵ (froom (tyRef erased mut (tyArray (tyInt w64) 1024)) l₁₈ 0) ∷ ‵ (fdies (tyRef erased mut (tyArray (tyInt w64) 1024)) l₁₈) ∷ ‵ (froom (tyRef erased mut (tyArray (tyInt w64) 1024)) l₁₇ 0) ∷ ‵ (fdies (tyRef erased mut (tyArray (tyInt w64) 1024)) l₁₇)
+        ∷ ‵ (froom tyBool l₁₆ 0) ∷ ‵ (fdies tyBool l₁₆) ∷ ‵ (froom word l₁₅ 0) ∷ ‵ (fdies word l₁₅) ∷ ‵ (froom Pg′.mir l₁₄ 0) ∷ ‵ (fdies Pg′.mir l₁₄) ∷ ‵ (froom (tyArray (tyInt w16) 4096) l₁₃ 0) ∷ ‵ (fdies (tyArray (tyInt w16) 4096) l₁₃) ∷ ‵ (froom (tyArray (tyInt w8) 4096) l₁₂ 0) ∷ ‵ (fdies (tyArray (tyInt w8) 4096) l₁₂)
+        ∷ ‵ (froom (tyArray (tyInt w8) 1024) l₁₁ 0) ∷ ‵ (fdies (tyArray (tyInt w8) 1024) l₁₁) ∷ ‵ (froom (tyArray (tyInt w64) 1024) l₁₀ 0) ∷ ‵ (fdies (tyArray (tyInt w64) 1024) l₁₀) ∷ ‵ (froom (tyArray (tyInt w64) 1024) l₉ 0) ∷ ‵ (fdies (tyArray (tyInt w64) 1024) l₉) ∷ ‵ (froom Co′.mir l₈ 0) ∷ ‵ (fdies Co′.mir l₈) ∷ ‵ (fat fullShare cells l₇ 0 (sv d₀)) ∷ ‵ (fdies cells l₇)
+        ∷ ‵ (fat fullShare word l₆ 0 (vint w64 limit)) ∷ ‵ (fdies word l₆) ∷ ‵ (fat fullShare Mc′.mir l₅ 0 mv) ∷ ‵ (fdies Mc′.mir l₅) ∷ ‵ (fat fullShare word l₄ 0 (vint w64 c)) ∷ ‵ (fdies word l₄) ∷ ‵ (fat fullShare slice l₃ 0 lv) ∷ ‵ (fdies slice l₃) ∷ ‵ (fat fullShare words l₂ 0 iv) ∷ ‵ (fdies words l₂)
+        ∷ ‵ (fat fullShare bytes l₁ 0 gv) ∷ ‵ (fdies bytes l₁) ∷ ‵ (froom Rn′.mir l₀ 0) ∷ ‵ (fdies Rn′.mir l₀) ∷ []
 
     begins : Fit w8 4096 (replicate 4096 255) → Fit w16 4096 (replicate 4096 0) → Sq W Before (runs C Λ E body.t-1 (atRet E Post))
     begins is₃ is₄ =

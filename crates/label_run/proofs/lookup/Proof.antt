@@ -213,7 +213,9 @@ module _ {M : Type 1} (𝓤 : URA M) (H : Heap 𝓤) (A : Atoms 𝓤) (W : Given
     -- where a turn begins: the table's row, its open borrow and what it is shared by; the image's token; what is known of the list, of the slice and of the numbers; the image; the locals from the last one on
     abbrev At : Share → Walk → List (Item 𝓤)
     At q′ w = ‵ (row T′.the-row q′ ys b o) ∷ ‵ (fobor κ′ p (arr-parts (shares T′.the-row) (length ys) .part q′ ys b o)) ∷ ‵ Shared ∷ ‵ (flft κ q) ∷ ‵ Known ∷ ‵ Fact ∷ ‵ Numbers ∷ ‵ Image
-        ∷ ‵ (froom L′.mir l₁₂ 0) ∷ ‵ (fdies L′.mir l₁₂) ∷ ‵ (froom tyPtr l₁₁ 0) ∷ ‵ (fdies tyPtr l₁₁) ∷ ‵ (froom word l₁₀ 0) ∷ ‵ (fdies word l₁₀) ∷ ‵ (froom tyBool l₉ 0) ∷ ‵ (fdies tyBool l₉) ∷ ‵ (fat fullShare word l₈ 0 (vint w64 (length ys))) ∷ ‵ (fdies word l₈) ∷ ‵ (froom L′.mir l₇ 0) ∷ ‵ (fdies L′.mir l₇) ∷ ‵ (fat fullShare Wk′.mir l₆ 0 (wv w)) ∷ ‵ (fdies Wk′.mir l₆) ∷ ‵ (fat fullShare word l₅ 0 (vint w64 n)) ∷ ‵ (fdies word l₅) ∷ ‵ (fat fullShare word l₄ 0 (vint w64 s)) ∷ ‵ (fdies word l₄) ∷ ‵ (fat fullShare word l₃ 0 (vint w64 c)) ∷ ‵ (fdies word l₃) ∷ ‵ (fat fullShare slice l₂ 0 (sliceVal (b, o) (length ys))) ∷ ‵ (fdies slice l₂) ∷ ‵ (fat fullShare bytes l₁ 0 gv) ∷ ‵ (fdies bytes l₁) ∷ ‵ (froom word l₀ 0) ∷ ‵ (fdies word l₀) ∷ []
+        ∷ ‵ (froom L′.mir l₁₂ 0) ∷ ‵ (fdies L′.mir l₁₂) ∷ ‵ (froom tyPtr l₁₁ 0) ∷ ‵ (fdies tyPtr l₁₁) ∷ ‵ (froom word l₁₀ 0) ∷ ‵ (fdies word l₁₀) ∷ ‵ (froom tyBool l₉ 0) ∷ ‵ (fdies tyBool l₉) ∷ ‵ (fat fullShare word l₈ 0 (vint w64 (length ys))) ∷ ‵ (fdies word l₈)
+        ∷ ‵ (froom L′.mir l₇ 0) ∷ ‵ (fdies L′.mir l₇) ∷ ‵ (fat fullShare Wk′.mir l₆ 0 (wv w)) ∷ ‵ (fdies Wk′.mir l₆) ∷ ‵ (fat fullShare word l₅ 0 (vint w64 n)) ∷ ‵ (fdies word l₅) ∷ ‵ (fat fullShare word l₄ 0 (vint w64 s)) ∷ ‵ (fdies word l₄) ∷ ‵ (fat fullShare word l₃ 0 (vint w64 c)) ∷ ‵ (fdies word l₃)
+        ∷ ‵ (fat fullShare slice l₂ 0 (sliceVal (b, o) (length ys))) ∷ ‵ (fdies slice l₂) ∷ ‵ (fat fullShare bytes l₁ 0 gv) ∷ ‵ (fdies bytes l₁) ∷ ‵ (froom word l₀ 0) ∷ ‵ (fdies word l₀) ∷ []
 
     abbrev I : Share → St → List (Item 𝓤)
     I q′ t = At q′ (t .0 .w)
@@ -262,7 +264,9 @@ module _ {M : Type 1} (𝓤 : URA M) (H : Heap 𝓤) (A : Atoms 𝓤) (W : Given
 
     -- where the walk comes to the code
     abbrev Before : List (Item 𝓤)
-    Before = ‵ (flft κ′ p) ∷ ‵ Shared ∷ ‵ (flft κ q) ∷ ‵ Known ∷ ‵ Fact ∷ ‵ Numbers ∷ ‵ Image ∷ ‵ (froom L′.mir l₁₂ 0) ∷ ‵ (fdies L′.mir l₁₂) ∷ ‵ (froom tyPtr l₁₁ 0) ∷ ‵ (fdies tyPtr l₁₁) ∷ ‵ (froom word l₁₀ 0) ∷ ‵ (fdies word l₁₀) ∷ ‵ (froom tyBool l₉ 0) ∷ ‵ (fdies tyBool l₉) ∷ ‵ (froom word l₈ 0) ∷ ‵ (fdies word l₈) ∷ ‵ (froom L′.mir l₇ 0) ∷ ‵ (fdies L′.mir l₇) ∷ ‵ (froom Wk′.mir l₆ 0) ∷ ‵ (fdies Wk′.mir l₆) ∷ ‵ (fat fullShare word l₅ 0 (vint w64 n)) ∷ ‵ (fdies word l₅) ∷ ‵ (fat fullShare word l₄ 0 (vint w64 s)) ∷ ‵ (fdies word l₄) ∷ ‵ (fat fullShare word l₃ 0 (vint w64 c)) ∷ ‵ (fdies word l₃) ∷ ‵ (fat fullShare slice l₂ 0 (sliceVal (b, o) (length ys))) ∷ ‵ (fdies slice l₂) ∷ ‵ (fat fullShare bytes l₁ 0 gv) ∷ ‵ (fdies bytes l₁) ∷ ‵ (froom word l₀ 0) ∷ ‵ (fdies word l₀) ∷ []
+    Before = ‵ (flft κ′ p) ∷ ‵ Shared ∷ ‵ (flft κ q) ∷ ‵ Known ∷ ‵ Fact ∷ ‵ Numbers ∷ ‵ Image ∷ ‵ (froom L′.mir l₁₂ 0) ∷ ‵ (fdies L′.mir l₁₂) ∷ ‵ (froom tyPtr l₁₁ 0) ∷ ‵ (fdies tyPtr l₁₁) ∷ ‵ (froom word l₁₀ 0) ∷ ‵ (fdies word l₁₀) ∷ ‵ (froom tyBool l₉ 0) ∷ ‵ (fdies tyBool l₉) ∷ ‵ (froom word l₈ 0) ∷ ‵ (fdies word l₈)
+        ∷ ‵ (froom L′.mir l₇ 0) ∷ ‵ (fdies L′.mir l₇) ∷ ‵ (froom Wk′.mir l₆ 0) ∷ ‵ (fdies Wk′.mir l₆) ∷ ‵ (fat fullShare word l₅ 0 (vint w64 n)) ∷ ‵ (fdies word l₅) ∷ ‵ (fat fullShare word l₄ 0 (vint w64 s)) ∷ ‵ (fdies word l₄) ∷ ‵ (fat fullShare word l₃ 0 (vint w64 c)) ∷ ‵ (fdies word l₃)
+        ∷ ‵ (fat fullShare slice l₂ 0 (sliceVal (b, o) (length ys))) ∷ ‵ (fdies slice l₂) ∷ ‵ (fat fullShare bytes l₁ 0 gv) ∷ ‵ (fdies bytes l₁) ∷ ‵ (froom word l₀ 0) ∷ ‵ (fdies word l₀) ∷ []
 
     begins : Sq W Before (runs C Λ E body.t-1 (atRet E Post))
     begins =

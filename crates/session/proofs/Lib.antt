@@ -1,0 +1,4 @@
+pub mod Joined
+pub mod Printing
+pub mod Loads
+pub mod Printed
