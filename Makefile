@@ -1,7 +1,13 @@
-# `make run` runs an image; `make test` is the whole of the tests.
-.PHONY: run test oracle images bench staticlib
+# `make run` runs an image; `make test` is the whole of the tests; `make oracle` compares with the Rust and the host alone.
+.PHONY: run test oracle floats images mm host-rust bench staticlib record
 
 IMAGE ?= crates/runimage/stdin
+
+# the folder of the Rust's own files, mm.rs and those beside it
+MM_SOURCE ?= ../shared/docs/src/src
+
+RUSTC := rustc -O --edition 2021 -D warnings
+LIBS := -L native=target/staticlib --extern mm=target/original/libmm.rlib --extern mm_host=target/libmm_host.rlib
 
 run:
 	@mkdir -p target
@@ -9,16 +15,62 @@ run:
 	@bin/runimage < $(IMAGE)
 
 # `rt ci` is the last act, so that its count is the last line. It removes target/ first: what needs compiled crates runs before it.
-test: oracle images
+test: oracle host-rust
 	rt fmt --check
 	rt ci
 
-oracle:
+oracle: floats images mm
+
+floats:
 	rt staticlib float64_c
-	rustc -O --edition 2021 -D warnings -L native=target/staticlib -l static=float64_c -o target/oracle-float64 oracle/float64.rs
+	$(RUSTC) -L native=target/staticlib -l static=float64_c -o target/oracle-float64 oracle/float64.rs
 	target/oracle-float64
 
 images:
 	rt check runimage
-	rustc -O --edition 2021 -D warnings -o target/oracle-images oracle/images.rs
+	$(RUSTC) -o target/oracle-images oracle/images.rs
 	target/oracle-images bin/runimage oracle/images.txt
+
+# the archive of the host's calls, and the Rust crate over it
+staticlib:
+	rt staticlib host
+
+target/libmm_host.rlib: staticlib
+	$(RUSTC) --crate-type rlib --crate-name mm_host -L native=target/staticlib -l static=host -o $@ host-rust/src/lib.rs
+
+# The original, its source unchanged: only its root file has the probe behind it, since the state is private there.
+target/original/libmm.rlib:
+	mkdir -p target/original
+	cp $(MM_SOURCE)/*.rs target/original/
+	cat $(MM_SOURCE)/mm.rs oracle/probe.rs > target/original/mm.rs
+	rustc -O --edition 2021 -C overflow-checks=off -A warnings --crate-type rlib --crate-name mm -o $@ target/original/mm.rs
+
+# The Rust beside ours. Without its source the recorded answers that `rt ci` replays (crate replay) stand in; on CI it has to be there.
+mm:
+	@if [ -e $(MM_SOURCE)/mm.rs ]; then $(MAKE) --no-print-directory compared; \
+	elif [ -n "$$CI" ]; then echo "mm: no mm.rs in MM_SOURCE=$(MM_SOURCE)"; exit 1; \
+	else echo "mm: no mm.rs in MM_SOURCE=$(MM_SOURCE), so nothing is compared here; crate replay stands in"; fi
+
+SEED ?= 1
+IMAGES ?= 120000
+
+.PHONY: compared
+compared: target/libmm_host.rlib target/original/libmm.rlib
+	$(RUSTC) $(LIBS) -o target/oracle-mm oracle/mm/main.rs
+	$(RUSTC) $(LIBS) -o target/oracle-differences oracle/mm/differences.rs
+	target/oracle-mm $(SEED) $(IMAGES) 3>&1 > /dev/null 2> /dev/null
+	target/oracle-differences docs/DIFFERENCES.md 3>&1 > /dev/null 2> /dev/null
+
+# the data of crate replay, made anew
+record: target/original/libmm.rlib
+	$(RUSTC) --extern mm=target/original/libmm.rlib -o target/oracle-record oracle/mm/record.rs
+	target/oracle-record 20261116 500 3> crates/replay/stdin > /dev/null 2> /dev/null
+
+host-rust: staticlib
+	cd host-rust && CARGO_TARGET_DIR=../target/host-rust cargo test --offline --quiet
+	cd host-rust && CARGO_TARGET_DIR=../target/host-rust cargo doc --offline --quiet
+
+# The report goes to standard error: the original prints to standard output.
+bench: target/libmm_host.rlib target/original/libmm.rlib
+	$(RUSTC) $(LIBS) -o target/bench bench/bench.rs
+	target/bench > /dev/null

@@ -116,8 +116,8 @@ impl Tally {
 /// ends of the ranges of whole numbers, the largest, infinities, and NaNs of several payloads.
 fn edges() -> Vec<u64> {
     let exponents = [
-        0, 1, 2, 52, 53, 54, 969, 970, 971, 1021, 1022, 1023, 1024, 1074, 1075, 1076, 1085, 1086,
-        1087, 1992, 1993, 1994, 2044, 2045, 2046, 2047,
+        0, 1, 2, 52, 53, 54, 969, 970, 971, 1021, 1022, 1023, 1024, 1074, 1075, 1076, 1085, 1086, 1087, 1992, 1993, 1994, 2044, 2045, 2046,
+        2047,
     ];
     let half = 1 << 51;
     let digits = [0, 1, 2, 3, half - 1, half, half + 1, DIGITS - 1, DIGITS];
@@ -148,10 +148,7 @@ fn halfway(r: &mut Random) -> (u64, u64) {
         }
         1 => {
             // a product of 54 digits, or of 53
-            (
-                odd(r, 26) | (1 + r.below(2046)) << 52,
-                odd(r, 26) | (1 + r.below(2046)) << 52,
-            )
+            (odd(r, 26) | (1 + r.below(2046)) << 52, odd(r, 26) | (1 + r.below(2046)) << 52)
         }
         _ => {
             // a subnormal product whose last digit is half of the smallest value
@@ -179,9 +176,7 @@ fn free(r: &mut Random, i: u64) -> (u64, u64) {
 }
 
 fn main() {
-    let mut arguments = std::env::args()
-        .skip(1)
-        .map(|a| a.parse::<u64>().expect("SEED and PAIRS are numbers"));
+    let mut arguments = std::env::args().skip(1).map(|a| a.parse::<u64>().expect("SEED and PAIRS are numbers"));
     let seed = arguments.next().unwrap_or(754);
     let pairs = arguments.next().unwrap_or(1_000_000);
     let mut r = Random(seed);
@@ -203,11 +198,7 @@ fn main() {
         }
     }
     for i in 0..pairs {
-        let (a, b) = if r.below(4) == 0 {
-            halfway(&mut r)
-        } else {
-            free(&mut r, i)
-        };
+        let (a, b) = if r.below(4) == 0 { halfway(&mut r) } else { free(&mut r, i) };
         t.pair(a, b);
         t.pattern(a);
         t.pattern(make(a >> 63, 1010 + i % 90, a));
@@ -217,8 +208,5 @@ fn main() {
     if t.mismatches > 0 {
         exit(1);
     }
-    println!(
-        "float64: {} pairs by 4 operations and {} conversions agree with the host, seed {seed}",
-        t.pairs, t.conversions
-    );
+    println!("float64: {} pairs by 4 operations and {} conversions agree with the host, seed {seed}", t.pairs, t.conversions);
 }

@@ -1,0 +1,67 @@
+// The original beside ours: loads each image in both, and runs both step by step.
+// Usage: oracle-mm [SEED] [IMAGES]. The original prints to standard output and standard error, so the report goes to descriptor 3.
+mod compare;
+mod images;
+mod output;
+mod report;
+mod trap;
+
+use compare::{compare, Verdict};
+use images::Random;
+use report::Report;
+use std::io::Write;
+
+// A smaller image that still differs: instructions are taken out one by one until none can go, then bytes.
+fn shrunk(image: &[u8], seed: u64) -> Vec<u8> {
+    let differs = |bytes: &[u8]| matches!(compare(bytes, &mut Random(seed), &mut Report::new()), Verdict::Differs(_));
+    let mut best = image.to_vec();
+    loop {
+        let starts = images::instructions(&best);
+        let without = |from: usize, to: usize| [&best[..from], &best[to.min(best.len())..]].concat();
+        let fewer = starts.windows(2).map(|w| without(w[0], w[1])).chain((0..best.len()).map(|i| without(i, i + 1))).find(|b| differs(b));
+        match fewer {
+            Some(bytes) => best = bytes,
+            None => return best,
+        }
+    }
+}
+
+fn hex(bytes: &[u8]) -> String {
+    bytes.iter().map(|b| format!("{b:02X} ")).collect()
+}
+
+fn main() {
+    let number = |i: usize, default: u64| std::env::args().nth(i).map_or(default, |a| a.parse().expect("a number"));
+    let (seed, wanted) = (number(1, 1), number(2, 120_000));
+    let mut out = output::third();
+    std::panic::set_hook(Box::new(|_| {}));
+    let mut random = Random(seed);
+    let mut report = Report::new();
+    let boundary = images::boundary();
+    let mut at = 0;
+    while at < wanted || report.steps < 5_000_000 {
+        let image = match at.checked_sub(boundary.len() as u64) {
+            None => boundary[at as usize].clone(),
+            Some(k) if k < images::SHORT => images::short(k),
+            Some(_) if random.one_in(4) => images::damaged(&mut random),
+            Some(_) => images::lively(&mut random),
+        };
+        let pieces = random.next();
+        if let Verdict::Differs(what) = compare(&image, &mut Random(pieces), &mut report) {
+            let small = shrunk(&image, pieces);
+            let small_what = compare(&small, &mut Random(pieces), &mut Report::new());
+            writeln!(out, "image {at} of seed {seed} differs: {what}\nshrunk: {}\n{small_what}", hex(&small)).expect("a report");
+            std::process::exit(1);
+        }
+        at += 1;
+        if at % 100_000 == 0 {
+            writeln!(out, "{at} images, {} steps", report.steps).expect("a report");
+        }
+    }
+    let missing = report.missing();
+    writeln!(out, "{report}").expect("a report");
+    if !missing.is_empty() {
+        writeln!(out, "never compared: {}", missing.join(", ")).expect("a report");
+        std::process::exit(1);
+    }
+}

@@ -1,0 +1,54 @@
+// What was compared, how often, and what never was.
+use std::collections::BTreeMap;
+use std::fmt;
+
+pub struct Report {
+    pub images: u64,
+    pub steps: u64,
+    pub pieces: u64,
+    pub instructions: BTreeMap<u8, u64>,
+    pub traps: BTreeMap<u64, u64>,
+    pub refusals: BTreeMap<u64, u64>,
+    // why a comparison ended: outside document 01's domain
+    pub outside: BTreeMap<&'static str, u64>,
+}
+
+impl Report {
+    pub fn new() -> Report {
+        Report {
+            images: 0,
+            steps: 0,
+            pieces: 0,
+            instructions: BTreeMap::new(),
+            traps: BTreeMap::new(),
+            refusals: BTreeMap::new(),
+            outside: BTreeMap::new(),
+        }
+    }
+
+    // Of what the Rust can show: all first bytes but NATIVE's, which it panics on, and 27, which it reads as 46.
+    pub fn missing(&self) -> Vec<String> {
+        let instructions = (0..=46u8).chain([69]).filter(|op| *op != 37 && *op != 27 && !self.instructions.contains_key(op));
+        let traps = [20, 22, 24, 25, 26, 27, 28, 29, 30].into_iter().filter(|t| !self.traps.contains_key(t));
+        let refusals = [2, 3, 7].into_iter().filter(|n| !self.refusals.contains_key(n));
+        instructions
+            .map(|op| format!("first byte {op}"))
+            .chain(traps.map(|t| format!("trap {t}")))
+            .chain(refusals.map(|n| format!("refusal {n}")))
+            .collect()
+    }
+}
+
+fn counts<K: fmt::Display>(all: &BTreeMap<K, u64>) -> String {
+    all.iter().map(|(k, n)| format!("{k}: {n}")).collect::<Vec<_>>().join(", ")
+}
+
+impl fmt::Display for Report {
+    fn fmt(&self, f: &mut fmt::Formatter<'_>) -> fmt::Result {
+        writeln!(f, "{} images and {} steps compared, {} images also in pieces", self.images, self.steps, self.pieces)?;
+        writeln!(f, "steps by first byte: {}", counts(&self.instructions))?;
+        writeln!(f, "traps: {}", counts(&self.traps))?;
+        writeln!(f, "refusals: {}", counts(&self.refusals))?;
+        write!(f, "left at the edge of the domain: {}", counts(&self.outside))
+    }
+}
