@@ -34,10 +34,13 @@ module _ (image : List ℕ) (insts : List Inst) (labels : List Label) (ip count 
   accepted (accepts l) e a i j cs h =
       let m : freshAt ip ≡ fresh l = cc in
       let n : count ≡ countOf l = cc in
-      let q : p ≡ lent image insts labels l = rw (i, j, n) in
-      (l, refl, runs-are-one-history image insts labels l bytes e _ _
-      (subst (λ (r : Program). RunsFrom r (fresh l) (map request cs) (map (λ c. c .result) cs)) q
-      (subst (λ (x : Machine). RunsFrom p x (map request cs) (map (λ c. c .result) cs)) m (from-calls p (freshAt ip) cs h))))
+      let q : p ≡ lent image insts labels l = rw (i, j, n) in (
+        l,
+        refl,
+        runs-are-one-history image insts labels l bytes e _ _
+            (subst (λ (r : Program). RunsFrom r (fresh l) (map request cs) (map (λ c. c .result) cs)) q
+            (subst (λ (x : Machine). RunsFrom p x (map request cs) (map (λ c. c .result) cs)) m (from-calls p (freshAt ip) cs h))),
+      )
 
 pub calls-are-one-history : CallsAreOneHistory
 unfolding means
