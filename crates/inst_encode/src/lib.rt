@@ -52,7 +52,7 @@ fn put_named(out: &mut [u8], at: usize, image: &[u8], start: u64, len: u64)
 }
 
 // How many bytes a well-formed record's encoding has: at most 9 more than its image, so the sum fits. Only the
-// encoder is to call it, for records that it has found well formed.
+// encoder calls it, for records that it has found well formed.
 pub fn encoded_len(inst: Inst) -> usize
     requires { ⌜ encodedSize inst < 2 ^ 64 ⌝ }
     ensures { λ r. ⌜ r ≡ encodedSize inst ⌝ }
@@ -67,7 +67,7 @@ pub fn encoded_len(inst: Inst) -> usize
 }
 
 // Writes a record's bytes from `at` on and returns how many they are. The rest of the output stays.
-// Only the encoder is to call it, and to prove both: it tests the record, and the room for all before it writes the first.
+// Only the encoder calls it, and proves both: it tests the record, and the room for all before it writes the first.
 pub fn as_bytes(image: &[u8], inst: Inst, out: &mut [u8], at: usize) -> usize
     requires { ⌜ wellFormed (now image) inst ≡ true ⌝ }
     requires { ⌜ at + length (asBytes (now image) inst) ≤ length (now out) ⌝ }

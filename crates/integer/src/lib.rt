@@ -49,7 +49,7 @@ pub fn imul(a: u64, b: u64) -> u64
     from_i64(signed(wrapping_mul(as_u64(a), as_u64(b))))
 }
 
-// The divisor's value isn't 0, which our own step is to prove: its trap 24 comes first.
+// The divisor's value isn't 0, which our own step proves: its trap 24 comes first.
 pub fn idiv(a: u64, b: u64) -> u64
     requires { ⌜ 0 < b % 2 ^ 48 ⌝ }
     ensures { λ r. ⌜ r ≡ integers.idiv a b ⌝ }
