@@ -63,9 +63,18 @@ fn trace<'a>(m: &mut Mm<'a>, program: &'a Program, steps: usize) -> Vec<u64> {
     out
 }
 
+// Whether a name has a byte of 128 or more: document 01's number 4, which the original doesn't have.
+fn is_beyond(image: &[u8]) -> bool {
+    let starts = images::instructions(image);
+    starts.windows(2).any(|w| {
+        let named = image.get(w[0]).is_some_and(|op| matches!(op, 12..=21 | 28 | 30 | 37));
+        named && image[(w[0] + 9).min(image.len())..w[1].min(image.len())].iter().any(|b| *b >= 128)
+    })
+}
+
 // An image, then 0 and its digests, or the number of its refusal. None where the original panics or has no such rule.
 fn record(image: &Vec<u8>) -> Option<Vec<u8>> {
-    if image.len() > 1_000 || image.contains(&37) || image.iter().any(|b| *b >= 128) && !image.starts_with(&[21, 6]) {
+    if image.len() > 1_000 || is_beyond(image) {
         return None;
     }
     let loaded = catch_unwind(|| Mm::from_binary("image", image, Natives::new(), Vec::new())).ok()?;
@@ -74,10 +83,6 @@ fn record(image: &Vec<u8>) -> Option<Vec<u8>> {
     match loaded {
         Err(trap) => out.push(number(&trap) as u8),
         Ok((mut m, program)) => {
-            let names = program.iter().filter(|(_, i)| [12..=21, 28..=28, 30..=30].iter().any(|r| r.contains(&i.as_bytes()[0])));
-            if names.into_iter().any(|(_, i)| i.as_bytes()[9..].iter().any(|b| *b >= 128)) {
-                return None;
-            }
             let digests = trace(&mut m, &program, 120);
             out.push(0);
             out.extend_from_slice(&(digests.len() as u16).to_le_bytes());

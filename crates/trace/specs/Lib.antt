@@ -1,0 +1,2 @@
+pub mod Digests
+pub mod Replays
