@@ -1,5 +1,5 @@
 # `make run` runs an image; `make test` is the whole of the tests; `make oracle` compares with the Rust and the host alone.
-.PHONY: run test oracle floats images mm host-rust bench staticlib record
+.PHONY: run test oracle floats images mm odd host-rust bench staticlib record
 
 IMAGE ?= crates/runimage/stdin
 
@@ -19,7 +19,7 @@ test: oracle host-rust
 	rt fmt --check
 	rt ci
 
-oracle: floats images mm
+oracle: floats images mm odd
 
 floats:
 	rt staticlib float64_c
@@ -32,10 +32,12 @@ images:
 	target/oracle-images bin/runimage oracle/images.txt
 
 # the archive of the host's calls, and the Rust crate over it
-staticlib:
+staticlib: target/staticlib/libhost.a
+
+target/staticlib/libhost.a: $(shell find crates -name '*.rt' -o -name '*.antt')
 	rt staticlib host
 
-target/libmm_host.rlib: staticlib
+target/libmm_host.rlib: target/staticlib/libhost.a host-rust/src/lib.rs host-rust/src/sys.rs
 	$(RUSTC) --crate-type rlib --crate-name mm_host -L native=target/staticlib -l static=host -o $@ host-rust/src/lib.rs
 
 # The original, its source unchanged: only its root file has the probe behind it, since the state is private there.
@@ -61,16 +63,22 @@ compared: target/libmm_host.rlib target/original/libmm.rlib
 	target/oracle-mm $(SEED) $(IMAGES) 3>&1 > /dev/null 2> /dev/null
 	target/oracle-differences docs/DIFFERENCES.md 3>&1 > /dev/null 2> /dev/null
 
+# no byte outside what is lent, by valgrind where there is one
+odd: target/staticlib/libhost.a
+	$(RUSTC) -L native=target/staticlib -l static=host -o target/oracle-odd oracle/odd.rs
+	if command -v valgrind > /dev/null; then valgrind --quiet --error-exitcode=1 target/oracle-odd; else target/oracle-odd; fi
+
 # the data of crate replay, made anew
 record: target/original/libmm.rlib
 	$(RUSTC) --extern mm=target/original/libmm.rlib -o target/oracle-record oracle/mm/record.rs
 	target/oracle-record 20261116 500 3> crates/replay/stdin > /dev/null 2> /dev/null
 
-host-rust: staticlib
+host-rust: target/staticlib/libhost.a
 	cd host-rust && CARGO_TARGET_DIR=../target/host-rust cargo test --offline --quiet
 	cd host-rust && CARGO_TARGET_DIR=../target/host-rust cargo doc --offline --quiet
 
 # The report goes to standard error: the original prints to standard output.
 bench: target/libmm_host.rlib target/original/libmm.rlib
-	$(RUSTC) $(LIBS) -o target/bench bench/bench.rs
-	target/bench > /dev/null
+	cc -O3 -Wall -Wextra -Werror -c -o target/interpreter.o bench/interpreter.c
+	$(RUSTC) $(LIBS) -C link-arg=target/interpreter.o -o target/bench bench/main.rs
+	target/bench 10 7 docs/benchmarks.svg > /dev/null
