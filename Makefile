@@ -14,10 +14,10 @@ run:
 	@rt check runimage > target/run.log 2>&1 || { cat target/run.log; exit 1; }
 	@bin/runimage < $(IMAGE)
 
-# `rt ci` is the last act, so that its count is the last line. It removes target/ first: what needs compiled crates runs before it.
-test: oracle host-rust
+# the oracle and `rt ci` side by side; the count of `rt ci` is the last line
+test:
 	rt fmt --check
-	rt ci
+	MM_SOURCE=$(MM_SOURCE) bin/test
 
 oracle: floats images mm odd
 

@@ -4,27 +4,13 @@ mod compare;
 mod images;
 mod output;
 mod report;
+mod shrink;
 mod trap;
 
 use compare::{compare, Verdict};
 use images::Random;
 use report::Report;
 use std::io::Write;
-
-// A smaller image that still differs: instructions are taken out one by one until none can go, then bytes.
-fn shrunk(image: &[u8], seed: u64) -> Vec<u8> {
-    let differs = |bytes: &[u8]| matches!(compare(bytes, &mut Random(seed), &mut Report::new()), Verdict::Differs(_));
-    let mut best = image.to_vec();
-    loop {
-        let starts = images::instructions(&best);
-        let without = |from: usize, to: usize| [&best[..from], &best[to.min(best.len())..]].concat();
-        let fewer = starts.windows(2).map(|w| without(w[0], w[1])).chain((0..best.len()).map(|i| without(i, i + 1))).find(|b| differs(b));
-        match fewer {
-            Some(bytes) => best = bytes,
-            None => return best,
-        }
-    }
-}
 
 fn hex(bytes: &[u8]) -> String {
     bytes.iter().map(|b| format!("{b:02X} ")).collect()
@@ -48,7 +34,8 @@ fn main() {
         };
         let pieces = random.next();
         if let Verdict::Differs(what) = compare(&image, &mut Random(pieces), &mut report) {
-            let small = shrunk(&image, pieces);
+            let differs = |bytes: &[u8]| matches!(compare(bytes, &mut Random(pieces), &mut Report::new()), Verdict::Differs(_));
+            let small = shrink::shrunk(&image, differs);
             let small_what = compare(&small, &mut Random(pieces), &mut Report::new());
             writeln!(out, "image {at} of seed {seed} differs: {what}\nshrunk: {}\n{small_what}", hex(&small)).expect("a report");
             std::process::exit(1);
