@@ -23,7 +23,7 @@ pub record LoadCall : Type 0 where
   pub labels : List Label
   pub machine : Machine
 
--- with a number nothing is written
+-- with a number everything is as it was
 unfoldable pub loadedBy : Load → List ℕ → List Label → Machine → LoadCall
 loadedBy (rejects n) insts labels m = record { number = n; count = 0; insts = insts; labels = labels; machine = m }
 loadedBy (accepts l) insts labels m =
