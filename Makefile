@@ -1,5 +1,5 @@
 # `make run` runs an image; `make test` is the whole of the tests; `make oracle` compares with the Rust and the host alone.
-.PHONY: run test oracle floats images mm odd host-rust bench staticlib record
+.PHONY: run test oracle floats images mm labels odd host-rust bench staticlib record
 
 IMAGE ?= crates/runimage/stdin
 
@@ -19,7 +19,7 @@ test:
 	rt fmt --check
 	MM_SOURCE=$(MM_SOURCE) bin/test
 
-oracle: floats images mm odd
+oracle: floats images mm labels odd
 
 floats:
 	rt staticlib float64_c
@@ -31,14 +31,17 @@ images:
 	$(RUSTC) -o target/oracle-images oracle/images.rs
 	target/oracle-images bin/runimage oracle/images.txt
 
-# the archive of the host's calls, and the Rust crate over it
-staticlib: target/staticlib/libhost.a
+# the archives of the host's calls, and the Rust crate over them
+ARCHIVES := target/staticlib/libhost.a target/staticlib/liblabel_host.a
+LINKED := -L native=target/staticlib -l static=host -l static=label_host
 
-target/staticlib/libhost.a: $(shell find crates -name '*.rt' -o -name '*.antt')
-	rt staticlib host
+staticlib: $(ARCHIVES)
 
-target/libmm_host.rlib: target/staticlib/libhost.a host-rust/src/lib.rs host-rust/src/sys.rs
-	$(RUSTC) --crate-type rlib --crate-name mm_host -L native=target/staticlib -l static=host -o $@ host-rust/src/lib.rs
+target/staticlib/lib%.a: $(shell find crates -name '*.rt' -o -name '*.antt')
+	rt staticlib $*
+
+target/libmm_host.rlib: $(ARCHIVES) $(wildcard host-rust/src/*.rs)
+	$(RUSTC) --crate-type rlib --crate-name mm_host $(LINKED) -o $@ host-rust/src/lib.rs
 
 # The original, its source unchanged: only its root file has the probe behind it, since the state is private there.
 target/original/libmm.rlib:
@@ -63,9 +66,14 @@ compared: target/libmm_host.rlib target/original/libmm.rlib
 	target/oracle-mm $(SEED) $(IMAGES) 3>&1 > /dev/null 2> /dev/null
 	target/oracle-differences docs/DIFFERENCES.md 3>&1 > /dev/null 2> /dev/null
 
+# the calls over label records beside those over number slices
+labels: target/libmm_host.rlib
+	$(RUSTC) -L native=target/staticlib --extern mm_host=target/libmm_host.rlib -o target/oracle-labels oracle/labels.rs
+	target/oracle-labels $(SEED) 25000
+
 # no byte outside what is lent, by valgrind where there is one
-odd: target/staticlib/libhost.a
-	$(RUSTC) -L native=target/staticlib -l static=host -o target/oracle-odd oracle/odd.rs
+odd: $(ARCHIVES)
+	$(RUSTC) $(LINKED) -o target/oracle-odd oracle/odd.rs
 	if command -v valgrind > /dev/null; then valgrind --quiet --error-exitcode=1 target/oracle-odd; else target/oracle-odd; fi
 
 # the data of crate replay, made anew
@@ -73,7 +81,7 @@ record: target/original/libmm.rlib
 	$(RUSTC) --extern mm=target/original/libmm.rlib -o target/oracle-record oracle/mm/record.rs
 	target/oracle-record 20261116 500 3> crates/replay/stdin > /dev/null 2> /dev/null
 
-host-rust: target/staticlib/libhost.a
+host-rust: $(ARCHIVES)
 	cd host-rust && CARGO_TARGET_DIR=../target/host-rust cargo test --offline --quiet
 	cd host-rust && CARGO_TARGET_DIR=../target/host-rust cargo doc --offline --quiet
 

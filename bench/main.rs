@@ -3,6 +3,7 @@
 // Usage: bench [MILLIONS OF STEPS A ROUND] [ROUNDS] [FILE FOR THE PICTURE]
 mod engines;
 mod images;
+mod labels;
 mod picture;
 
 use images::{images, round, straight, Program};
@@ -76,6 +77,7 @@ fn main() {
     short_runs(rounds);
     straight_code(rounds);
     load_and_encode(rounds);
+    labels::runs(1_000_000 * number(1, 10), rounds);
     if let Some(file) = std::env::args().nth(3) {
         std::fs::write(file, picture::svg(&rows)).expect("the picture is written");
     }

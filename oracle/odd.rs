@@ -1,8 +1,11 @@
 // The host's calls with slices of odd lengths and contents, each in a block of its own, so that valgrind sees a byte read or written outside.
 // What is refused must be left as it was.
+#[path = "../host-rust/src/layout.rs"]
+mod layout;
 #[path = "../host-rust/src/sys.rs"]
 mod sys;
 
+use layout::{Label, Machine};
 use sys::Parts;
 
 #[derive(Clone, PartialEq)]
@@ -101,10 +104,44 @@ fn encodes(calls: &mut u64) {
     }
 }
 
+const NONE: Label = Label { start: 13, len: 13, target: 13, next: 13 };
+
+fn loads_of_records(calls: &mut u64) {
+    for image in images() {
+        for (insts, records) in INSTS.iter().flat_map(|i| [0, 1, 512, 513, 514].map(|r| (*i, r))) {
+            let (mut is, mut ls, mut m) = (vec![11; insts], vec![NONE; records], Box::new(Machine { ip: 23, ..Machine::empty() }));
+            let answer = sys::load_labels(&image, &mut is, &mut ls, &mut m);
+            *calls += 1;
+            let untouched = m.ip == 23 && is.iter().all(|n| *n == 11) && ls.iter().all(|l| *l == NONE);
+            assert!(answer.number == 0 || untouched && answer.count == 0, "a refusal wrote");
+            assert!(answer.number != 0 || *m == Machine::empty() && is.len() >= 16_384 && ls.len() >= 513, "too little was lent");
+        }
+    }
+}
+
+fn runs_in_place(calls: &mut u64) {
+    let image = &images()[0];
+    let (mut is, mut ls, mut fresh) = (vec![0; 16_384], vec![NONE; 513], Box::new(Machine::empty()));
+    let count = sys::load_labels(image, &mut is, &mut ls, &mut fresh).count;
+    for (cut, records) in [16_384, 17, 16, 15, 3, 0].iter().flat_map(|c| [513, 3, 2, 1, 0].map(|r| (*c, r))) {
+        for room in [0, 1, 7] {
+            let (mut m, mut dumps) = (fresh.clone(), vec![17; room]);
+            // each slice in a block of its own length
+            let (is, ls) = (is[..cut].to_vec(), ls[..records].to_vec());
+            let ran = sys::run_in_place(&image[..image.len() - room], &is, &ls, count, &mut m, 5_000, &mut dumps);
+            *calls += 1;
+            assert!(ran.ending != 50 && ran.dumped <= room as u64 && ran.steps <= 5_000);
+            assert!(dumps[ran.dumped as usize..].iter().all(|n| *n == 17), "the rest of the buffer was written");
+        }
+    }
+}
+
 fn main() {
     let mut calls = 0;
     loads(&mut calls);
     runs(&mut calls);
     encodes(&mut calls);
+    loads_of_records(&mut calls);
+    runs_in_place(&mut calls);
     println!("odd lengths: {calls} calls");
 }

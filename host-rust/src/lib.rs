@@ -18,12 +18,12 @@
 //! # Ok::<(), mm_host::Number>(())
 //! ```
 
+pub mod labels;
+mod layout;
 mod sys;
 
+pub use layout::{Label, Machine, SLOTS};
 use std::fmt;
-
-/// A data stack's cells, a call stack's addresses and a memory's bytes.
-pub const SLOTS: usize = 1024;
 
 /// The fewest numbers that an instruction table may have for a load: 4,096 records of four.
 pub const INSTS: usize = 4 * 4096;
@@ -72,25 +72,7 @@ impl fmt::Display for Number {
 
 impl std::error::Error for Number {}
 
-/// One machine. Slots above the heights keep what they held.
-#[derive(Clone, Debug, PartialEq, Eq)]
-pub struct Machine {
-    pub stack: [u64; SLOTS],
-    pub height: u64,
-    pub calls: [u64; SLOTS],
-    pub call_height: u64,
-    pub memory: [u8; SLOTS],
-    pub flags: u8,
-    pub ip: u64,
-    pub halted: bool,
-}
-
 impl Machine {
-    /// A machine with nothing in it. Only a load gives one that is ready to run.
-    pub fn empty() -> Machine {
-        Machine { stack: [0; SLOTS], height: 0, calls: [0; SLOTS], call_height: 0, memory: [0; SLOTS], flags: 0, ip: 0, halted: false }
-    }
-
     /// The cells on the data stack, the last on top.
     pub fn cells(&self) -> &[u64] {
         &self.stack[..(self.height as usize).min(SLOTS)]
@@ -155,6 +137,17 @@ pub struct Ran {
     pub dumped: usize,
 }
 
+impl From<sys::Ran> for Ran {
+    fn from(answer: sys::Ran) -> Ran {
+        let ending = match answer.ending {
+            0 => Ending::Halted,
+            1 => Ending::Limit,
+            number => Ending::Number(Number(number)),
+        };
+        Ran { ending, steps: answer.steps, dumped: answer.dumped as usize }
+    }
+}
+
 /// Loads an image into the tables. A refused load changes no table.
 pub fn load(image: &[u8], tables: &mut Tables) -> Result<Loaded, Number> {
     let mut machine = Machine::empty();
@@ -167,13 +160,7 @@ pub fn load(image: &[u8], tables: &mut Tables) -> Result<Loaded, Number> {
 
 /// Runs the machine for at most `limit` steps. After `Limit` or a number the next run goes on where this one stopped.
 pub fn run(image: &[u8], tables: &Tables, count: u64, machine: &mut Machine, limit: u64, dumps: &mut [u64]) -> Ran {
-    let answer = machine.lend(|parts| sys::run(image, &tables.insts, &tables.labels, count, parts, limit, dumps));
-    let ending = match answer.ending {
-        0 => Ending::Halted,
-        1 => Ending::Limit,
-        number => Ending::Number(Number(number)),
-    };
-    Ran { ending, steps: answer.steps, dumped: answer.dumped as usize }
+    Ran::from(machine.lend(|parts| sys::run(image, &tables.insts, &tables.labels, count, parts, limit, dumps)))
 }
 
 /// Writes the first `count` instructions of the table out, HALT included, and returns how many bytes they are.

@@ -1,16 +1,19 @@
-//! The archive's calls, and the only unsafe code of this crate.
+//! The archives' calls, and the only unsafe code of this crate.
 //!
 //! Each function here is safe: its arguments are references, so that every address is valid for its length, what is written is lent exclusively and nothing
-//! overlaps. The archive tests everything else itself, for slices of any length and contents.
+//! overlaps. The archives test everything else themselves, for slices of any length and contents. A [`Machine`] has their layout, and its `halted`, a bool,
+//! is 0 or 1, as they rely on.
 
-/// What `mm_load` answers.
+use crate::layout::{Label, Machine};
+
+/// What `mm_load` and `mm_load_labels` answer.
 #[repr(C)]
 pub struct Loaded {
     pub number: u64,
     pub count: u64,
 }
 
-/// What `mm_run` answers.
+/// What `mm_run` and `mm_run_in_place` answer.
 #[repr(C)]
 pub struct Ran {
     pub ending: u64,
@@ -34,7 +37,7 @@ pub struct Parts<'a> {
 }
 
 mod c {
-    use super::{Encoded, Loaded, Ran};
+    use super::{Encoded, Label, Loaded, Machine, Ran};
 
     extern "C" {
         pub fn mm_load(
@@ -84,6 +87,30 @@ mod c {
             out: *mut u8,
             out_len: usize,
         ) -> Encoded;
+
+        pub fn mm_load_labels(
+            image: *const u8,
+            image_len: usize,
+            insts: *mut u64,
+            insts_len: usize,
+            labels: *mut Label,
+            labels_len: usize,
+            machine: *mut Machine,
+        ) -> Loaded;
+
+        pub fn mm_run_in_place(
+            image: *const u8,
+            image_len: usize,
+            insts: *const u64,
+            insts_len: usize,
+            labels: *const Label,
+            labels_len: usize,
+            count: u64,
+            machine: *mut Machine,
+            limit: u64,
+            dumps: *mut u64,
+            dumps_len: usize,
+        ) -> Ran;
     }
 }
 
@@ -138,4 +165,36 @@ pub fn run(image: &[u8], insts: &[u64], labels: &[u64], count: u64, m: Parts, li
 pub fn encode(image: &[u8], insts: &[u64], count: u64, out: &mut [u8]) -> Encoded {
     // SAFETY: see the module.
     unsafe { c::mm_encode(image.as_ptr(), image.len(), insts.as_ptr(), insts.len(), count, out.as_mut_ptr(), out.len()) }
+}
+
+pub fn load_labels(image: &[u8], insts: &mut [u64], labels: &mut [Label], machine: &mut Machine) -> Loaded {
+    // SAFETY: see the module.
+    unsafe { c::mm_load_labels(image.as_ptr(), image.len(), insts.as_mut_ptr(), insts.len(), labels.as_mut_ptr(), labels.len(), machine) }
+}
+
+pub fn run_in_place(
+    image: &[u8],
+    insts: &[u64],
+    labels: &[Label],
+    count: u64,
+    machine: &mut Machine,
+    limit: u64,
+    dumps: &mut [u64],
+) -> Ran {
+    // SAFETY: see the module.
+    unsafe {
+        c::mm_run_in_place(
+            image.as_ptr(),
+            image.len(),
+            insts.as_ptr(),
+            insts.len(),
+            labels.as_ptr(),
+            labels.len(),
+            count,
+            machine,
+            limit,
+            dumps.as_mut_ptr(),
+            dumps.len(),
+        )
+    }
 }

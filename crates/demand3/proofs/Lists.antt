@@ -9,18 +9,25 @@ use Rattle.machine.specs.declared.Machine.{Machine}
 use Rattle.machine.specs.declared.Label.{Label}
 use Rattle.machine.specs.Load.{Loaded, Load, rejects, accepts, load, instsAfter, labelsAfter, fresh, countOf}
 use Rattle.machine.specs.Lookup.{Program}
+use Rattle.machine.specs.Run.{run}
 use Rattle.machine.specs.Statements.{RunsFrom, lent}
 use Rattle.machine.proofs.Runs.{runs-are-one-history}
-use Rattle.tables.specs.Tables.{instsOf, labelsOf, program}
+use Rattle.tables.specs.Tables.{instsOf, labelsOf}
 use Rattle.loader.specs.Loading.{starts, answerOf, freshAt, means, loadOf}
 use Rattle.loader.proofs.Left.{insts-left, labels-left}
+use Rattle.run.specs.declared.Ran.{Ran}
+use Rattle.run.specs.Runs.{answer}
 use Rattle.label_loader.specs.Loading as records
-use Rattle.demand3.specs.Calls.{Call, Called, request, OneHistoryOf, CallsAreOneHistory, withRecords, RecordCallsAreOneHistory}
+use Rattle.demand3.specs.Calls.{Call, Called, request, result, OneHistoryOf, CallsAreOneHistory, RecordCallsAreOneHistory, InPlaceCallsAreOneHistory}
 
-from-calls : (p : Program) (m : Machine) (cs : List Call) → Called p m cs → RunsFrom p m (map request cs) (map (λ c. c .result) cs)
+-- the contract of a run over the program p
+abbrev Runs : Program → Machine → ℕ → List ℕ → Ran → List ℕ → Type 0
+Runs p m limit dumps r dumps′ = answer r dumps′ ≡ run p limit dumps m
+
+from-calls : (p : Program) (m : Machine) (cs : List Call) → Called (Runs p) m cs → RunsFrom p m (map request cs) (map result cs)
 unfolding Called RunsFrom
 from-calls p m [] h = tt
-from-calls p m (c ∷ cs) h = (h .0, from-calls p (c .result .machine) cs (h .1))
+from-calls p m (c ∷ cs) h = (h .0, from-calls p (c .ran .machine) cs (h .1))
 
 module _ (image : List ℕ) (insts : List Inst) (labels : List Label) (ip count : ℕ) (insts′ : List Inst) (labels′ : List Label) (bytes : Bytes image) where
   abbrev p : Program
@@ -28,7 +35,7 @@ module _ (image : List ℕ) (insts : List Inst) (labels : List Label) (ip count 
 
   -- over the records that the load left
   accepted : (x : Load) → load image insts labels ≡ x → starts (freshAt ip) count ≡ answerOf x → insts′ ≡ instsAfter x insts → labels′ ≡ labelsAfter x labels
-      → (cs : List Call) → Called p (freshAt ip) cs → OneHistoryOf image x cs
+      → (cs : List Call) → Called (Runs p) (freshAt ip) cs → OneHistoryOf image x cs
   unfolding answerOf lent instsAfter labelsAfter
   accepted (rejects n) e a i j cs h = absurd (let z : _≡_ {A = ℕ} 0 1 = cc in omega arith)
   accepted (accepts l) e a i j cs h =
@@ -38,8 +45,8 @@ module _ (image : List ℕ) (insts : List Inst) (labels : List Label) (ip count 
         l,
         refl,
         runs-are-one-history image insts labels l bytes e _ _
-            (subst (λ (r : Program). RunsFrom r (fresh l) (map request cs) (map (λ c. c .result) cs)) q
-            (subst (λ (x : Machine). RunsFrom p x (map request cs) (map (λ c. c .result) cs)) m (from-calls p (freshAt ip) cs h))),
+            (subst (λ (r : Program). RunsFrom r (fresh l) (map request cs) (map result cs)) q
+            (subst (λ (x : Machine). RunsFrom p x (map request cs) (map result cs)) m (from-calls p (freshAt ip) cs h))),
       )
 
 pub calls-are-one-history : CallsAreOneHistory
@@ -53,3 +60,7 @@ unfolding means
 record-calls-are-one-history image insts labels ip count insts′ labels′ bytes f cs h =
     accepted image (instsOf insts) labels ip count (instsOf insts′) labels′ bytes (records.loadOf image insts labels) refl (f .answers)
     (ap instsOf (f .insts-are) ∙ insts-left _ insts) (f .labels-are) cs h
+
+-- its contract is the same equation
+pub in-place-calls-are-one-history : InPlaceCallsAreOneHistory
+in-place-calls-are-one-history = record-calls-are-one-history

@@ -6,32 +6,37 @@ use Rattle.inst.specs.Records.{Bytes}
 use Rattle.machine.specs.declared.Machine.{Machine}
 use Rattle.machine.specs.declared.Label.{Label}
 use Rattle.machine.specs.Load.{Load, Loaded, accepts}
-use Rattle.machine.specs.Lookup.{Program}
-use Rattle.machine.specs.Run.{Result, run}
+use Rattle.machine.specs.Run.{Result}
 use Rattle.machine.specs.Statements.{Request, OneHistory}
-use Rattle.tables.specs.Tables.{instsOf, program}
 use Rattle.loader.specs.declared.Loading.the-variants.{Accepted}
 use Rattle.loader.specs.Loading.{freshAt, loadOf, FromBinary}
+use Rattle.run.specs.declared.Ran.{Ran}
+use Rattle.run.specs.Runs.{answer, ExecuteProgram}
 use Rattle.label_loader.specs.Loading as records
+use Rattle.label_run.specs.declared.Report.{Report}
+use Rattle.label_run.specs.Runs as runs
 
--- one call of a run: its limit, the buffer as it was lent, and as a result what it returned and the buffer as it was left
--- (`answer` of crate run, `answerInPlace` of crate label_run)
+-- one call of a run: its limit, the buffer as it was lent, what it returned, and the buffer as it was left
 pub record Call : Type 0 where
   pub limit : ℕ
   pub lent : List ℕ
-  pub result : Result
+  pub ran : Ran
+  pub left : List ℕ
 
--- The contract of a run over the program p holds of each call; the first has the machine m, each other one the machine that the one before returned
-unfoldable pub Called : Program → Machine → List Call → Type 0
-Called p m [] = Unit {0}
-Called p m (c ∷ cs) = (c .result ≡ run p (c .limit) (c .lent) m) × Called p (c .result .machine) cs
+-- The contract of a run holds of each call; the first has the machine m, each other one the machine that the one before returned
+unfoldable pub Called : (Machine → ℕ → List ℕ → Ran → List ℕ → Type 0) → Machine → List Call → Type 0
+Called Contract m [] = Unit {0}
+Called Contract m (c ∷ cs) = Contract m (c .limit) (c .lent) (c .ran) (c .left) × Called Contract (c .ran .machine) cs
 
 abbrev pub request : Call → Request
 request c = record { limit = c .limit; buffer = c .lent }
 
+abbrev pub result : Call → Result
+result c = answer (c .ran) (c .left)
+
 -- demand 3 of the calls, of an image that a load with this answer accepted
 abbrev pub OneHistoryOf : List ℕ → Load → List Call → Type 0
-OneHistoryOf image answer cs = (l : Loaded) × (answer ≡ accepts l) × OneHistory image l (map request cs) (map (λ c. c .result) cs)
+OneHistoryOf image answer cs = (l : Loaded) × (answer ≡ accepts l) × OneHistory image l (map request cs) (map result cs)
 
 -- A load that accepted, whatever the tables held, and runs from its fresh machine with the tables as it left them and its count
 abbrev pub CallsAreOneHistory : Type 0
@@ -40,23 +45,32 @@ CallsAreOneHistory =
     → Bytes image
     → FromBinary image insts labels (Accepted ip count) insts′ labels′
     → (cs : List Call)
-    → Called (program image insts′ labels′ count) (freshAt ip) cs
+    → Called (ExecuteProgram image insts′ labels′ count) (freshAt ip) cs
     → OneHistoryOf image (loadOf image insts labels) cs
 
--- the program of a run whose label table is lent as records
-abbrev pub withRecords : List ℕ → List ℕ → List Label → ℕ → Program
-withRecords image insts labels count = record { image = image; insts = instsOf insts; labels = labels; count = count }
-
--- the same where the label table is lent as records (label_loader and label_run)
-abbrev pub RecordCallsAreOneHistory : Type 0
-RecordCallsAreOneHistory =
+-- the same where the label table is lent as records, with this contract of a run
+abbrev pub OverRecords : ((image insts : List ℕ) (labels : List Label) → ℕ → Machine → ℕ → List ℕ → Ran → List ℕ → Type 0) → Type 0
+OverRecords Contract =
     (image insts : List ℕ) (labels : List Label) (ip count : ℕ) (insts′ : List ℕ) (labels′ : List Label)
     → Bytes image
     → records.FromBinary image insts labels (Accepted ip count) insts′ labels′
     → (cs : List Call)
-    → Called (withRecords image insts′ labels′ count) (freshAt ip) cs
+    → Called (Contract image insts′ labels′ count) (freshAt ip) cs
     → OneHistoryOf image (records.loadOf image insts labels) cs
+
+-- by value (label_loader and label_run's execute_program)
+abbrev pub RecordCallsAreOneHistory : Type 0
+RecordCallsAreOneHistory = OverRecords runs.ExecuteProgram
+
+-- in place (label_run's execute_in_place): what a call reports, with the machine that it leaves, is what it returned
+abbrev pub reported : Ran → Report
+reported r = record { ending = r .ending; steps = r .steps; dumped = r .dumped }
+
+abbrev pub InPlaceCallsAreOneHistory : Type 0
+InPlaceCallsAreOneHistory =
+    OverRecords (λ image insts labels count m limit dumps r dumps′. runs.ExecuteInPlace image insts labels count m limit dumps (reported r) (r .machine) dumps′)
 
 pub record Demand3 : Type 0 where
   pub by-numbers : CallsAreOneHistory
   pub by-records : RecordCallsAreOneHistory
+  pub in-place : InPlaceCallsAreOneHistory

@@ -1,10 +1,7 @@
 // Demand 3 of the code. No behaviour of its own: `load` and `run` hold the statement's hypotheses to the calls.
-ghost use mathlib.Core.Path.{_≡_};
 ghost use Rattle.inst.specs.Records.{Bytes};
-ghost use Rattle.machine.specs.Run as definition;
-ghost use Rattle.tables.specs.Tables.{program};
 ghost use Rattle.loader.specs.Loading.{FromBinary};
-ghost use Rattle.run.specs.Runs.{answer};
+ghost use Rattle.run.specs.Runs.{ExecuteProgram};
 ghost use Rattle.demand3.specs.Calls.{Demand3};
 use loader::Loading;
 use machine::Machine;
@@ -28,7 +25,7 @@ pub fn run(
     limit: u64,
     dumps: &mut [u64],
 ) -> Ran
-    ensures { λ r. ⌜ answer r (now (dumps .exit)) ≡ definition.run (program (now (image .entry)) (now (insts .entry)) (now (labels .entry)) count) limit (now (dumps .entry)) m ⌝ }
+    ensures { λ r. ⌜ ExecuteProgram (now (image .entry)) (now (insts .entry)) (now (labels .entry)) count m limit (now (dumps .entry)) r (now (dumps .exit)) ⌝ }
 {
     run::execute_program(image, insts, labels, count, m, limit, dumps)
 }

@@ -10,7 +10,8 @@ use Rattle.loader.specs.declared.Loading.the-variants.{Refused, Accepted}
 use Rattle.loader.specs.Loading.{FromBinary, means, answerOf, freshAt, instsLeft, labelsLeft}
 use Rattle.run.specs.declared.Ran.{Ran}
 use Rattle.run.specs.Runs.{ExecuteProgram}
-use Rattle.host.specs.Layout.{Lent, slices, hasSizes, isMachine, machineOf, lentOf, endingNumber}
+use Rattle.host_answer.specs.Endings.{endingNumber}
+use Rattle.host.specs.Layout.{Lent, slices, hasSizes, isMachine, machineOf, lentOf}
 use Rattle.host.specs.Calls.{loadedBy, loadCall, ranBy, runCall}
 
 -- a machine that was written back slice by slice

@@ -7,7 +7,8 @@ use Rattle.machine.specs.Run.{Result, run}
 use Rattle.machine.specs.Encode.{Encoded, unencoded, encoded, encode, outputAfter}
 use Rattle.tables.specs.Tables.{instsOf, labelsOf, program}
 use Rattle.loader.specs.Loading.{instsLeft, labelsLeft}
-use Rattle.host.specs.Layout.{Lent, hasSizes, isMachine, machineOf, lentOf, endingNumber, noMachine}
+use Rattle.host_answer.specs.Endings.{endingNumber}
+use Rattle.host.specs.Layout.{Lent, hasSizes, isMachine, machineOf, lentOf, noMachine}
 
 -- load: the answer, both tables and the machine's slices afterwards
 pub record LoadCall : Type 0 where

@@ -1,12 +1,10 @@
--- How a machine and an ending cross to a host, as docs/HOST.md lays them out.
+-- How a machine crosses to a host, as docs/HOST.md lays them out.
 use Prim.Native.Nat.{ℕ}
 use mathlib.Core.Bool.{Bool, cond, _&&_}
 use mathlib.Core.List.{List, [], _∷_}
 use lib.Dec.{eqb, ltb}
 use lib.ListN.{length, getD}
 use Rattle.machine.specs.declared.Machine.{Machine}
-use Rattle.machine.specs.declared.Ending.{Ending}
-use Rattle.machine.specs.declared.Ending.the-variants.{Halted, Limit, Number}
 use Rattle.machine.specs.Limits.{stackLimit, callLimit, memorySize}
 use Rattle.machine.specs.Change.{callHeight}
 
@@ -53,12 +51,6 @@ lentOf m =
       memory = m .memory;
       numbers = m .height ∷ callHeight m ∷ m .flags ∷ m .ip ∷ cond (m .halted) 1 0 ∷ [];
     }
-
--- endings cross as numbers: 0 HALTED, 1 LIMIT, otherwise document 01's number
-unfoldable pub endingNumber : Ending → ℕ
-endingNumber Halted = 0
-endingNumber Limit = 1
-endingNumber (Number n) = n
 
 -- no machine is lent; a number of our own
 abbrev pub noMachine : ℕ

@@ -1,7 +1,7 @@
 // The calls of a host, from Rust or C: load, run and encode over lent slices, as docs/HOST.md lays them out.
 // None has a `requires`: each is right for slices of any length and contents.
 ghost use mathlib.Core.Path.{_≡_};
-ghost use Rattle.host.specs.Layout.{slices, endingNumber};
+ghost use Rattle.host.specs.Layout.{slices};
 ghost use Rattle.host.specs.Calls.{loadCall, runCall, encodeCall};
 
 mod lent;
@@ -12,27 +12,16 @@ use crate::lent::read_machine;
 use crate::lent::write_machine;
 use encoder::Written;
 use encoder::to_binary;
+use host_answer::Loaded;
+use host_answer::Ran;
+use host_answer::ending_number;
 use loader::Loading;
 use loader::fresh;
 use loader::from_binary;
-use machine::Ending;
 use run::execute_program;
 
 // No machine is lent; a number of our own.
 const NO_MACHINE: u64 = 50;
-
-#[repr(C)]
-pub struct Loaded {
-    pub number: u64,
-    pub count: u64,
-}
-
-#[repr(C)]
-pub struct Ran {
-    pub ending: u64,
-    pub steps: u64,
-    pub dumped: u64,
-}
 
 #[repr(C)]
 pub struct Encoded {
@@ -75,16 +64,6 @@ pub extern "C" fn mm_load(
                 count: count as u64,
             };
         }
-    }
-}
-
-fn ending_number(ending: Ending) -> u64
-    ensures { λ r. ⌜ r ≡ endingNumber ending ⌝ }
-{
-    match ending {
-        Ending::Halted => 0,
-        Ending::Limit => 1,
-        Ending::Number(n) => n as u64,
     }
 }
 

@@ -1,3 +1,1 @@
-mod Again
-mod Tests
 mod Turns

@@ -1,12 +1,11 @@
 -- A load under way whose label table is lent as records: what a turn of `from_binary` keeps, over plain values. Assumes nothing.
 use Prim.Native.Nat.{ℕ, suc, _+_, _*_, _/_, _<_, _≤_}
 use mathlib.Core.Path.{_≡_, refl, ap, sym, _∙_, subst}
-use mathlib.Core.Bool.{Bool, true, false, cond, not}
+use mathlib.Core.Bool.{Bool, true, false, cond}
 use mathlib.Core.List.{List, [], _∷_, _++_}
 use mathlib.Core.WellFounded.{WellFounded, InvImage·wf}
 use native.Mathlib.Nat.{zero-add}
 use native.Mathlib.Omega.{arith}
-use lib.Dec.{T}
 use lib.ListN.{length}
 use lib.Seq.{sets}
 use lib.WfN.{Nat·lt-wfRel}
@@ -23,14 +22,6 @@ use Rattle.loader.specs.Loading.{refuses, starts, freshAt, means}
 use Rattle.loader.specs.Filling.{linkedOn, left, Begins, Fills}
 use Rattle.loader.proofs.Underway as under
 use Rattle.label_loader.specs.Loading.{linkedAt, loadOf, FromBinary}
-
-pub yes-is : (y : Bool) → T y → y ≡ true
-yes-is true _ = refl
-yes-is false a = absurd a
-
-pub no-is : (y : Bool) → T (not y) → y ≡ false
-no-is true a = absurd a
-no-is false _ = refl
 
 -- a label more, or the head
 label-more : (xs ys : List Label) (p : Pending) (ls : List Label) → 0 < length xs → p .index ≡ length ls → ys ≡ sets xs 0 ls

@@ -1,5 +1,2 @@
-pub mod Tests
-pub mod Again
-pub mod Local
 pub mod Chain
 pub mod Runs

@@ -1,14 +1,10 @@
 // The lookup and the run over a label table that is a slice of records. The lookup reads one record each turn, and crate
 // lookup's `judge` decides on it; the run is crate run's, which stops where it needs a lookup. Proved by hand: the borrow
 // checker covers no reference to a struct.
-ghost use mathlib.Core.Path.{_≡_};
 ghost use mathlib.Core.List.{List};
 ghost use Rattle.inst.specs.declared.Inst.{Inst};
-ghost use Rattle.machine.specs.Run as definition;
-ghost use Rattle.tables.specs.Tables.{instsOf};
 ghost use Rattle.lookup.specs.Walks.{lent, Finds};
-ghost use Rattle.run.specs.Runs.{answer};
-ghost use Rattle.label_run.specs.InPlace.{answerInPlace};
+ghost use Rattle.label_run.specs.Runs.{ExecuteProgram, ExecuteInPlace};
 use lookup::judge;
 use machine::Ending;
 use machine::Label;
@@ -44,7 +40,7 @@ pub fn execute_program(
     limit: u64,
     dumps: &mut [u64],
 ) -> Ran
-    ensures { λ r. ⌜ answer r (now (dumps .exit)) ≡ definition.run (lent (now (image .entry)) (instsOf (now (insts .entry))) (now (labels .entry)) count) limit (now (dumps .entry)) m ⌝ }
+    ensures { λ r. ⌜ ExecuteProgram (now (image .entry)) (now (insts .entry)) (now (labels .entry)) count m limit (now (dumps .entry)) r (now (dumps .exit)) ⌝ }
 {
     let core = Core {
         ip: m.ip,
@@ -93,7 +89,7 @@ pub fn execute_in_place(
     limit: u64,
     dumps: &mut [u64],
 ) -> Report
-    ensures { λ r. ⌜ answerInPlace r (now (m .exit)) (now (dumps .exit)) ≡ definition.run (lent (now (image .entry)) (instsOf (now (insts .entry))) (now (labels .entry)) count) limit (now (dumps .entry)) (now (m .entry)) ⌝ }
+    ensures { λ r. ⌜ ExecuteInPlace (now (image .entry)) (now (insts .entry)) (now (labels .entry)) count (now (m .entry)) limit (now (dumps .entry)) r (now (m .exit)) (now (dumps .exit)) ⌝ }
 {
     let r = execute_program(image, insts, labels, count, *m, limit, dumps);
     *m = r.machine;

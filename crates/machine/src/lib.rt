@@ -3,6 +3,7 @@ ghost use Rattle.machine.specs.Theorems.{Theorems};
 
 // One machine. The data stack is the first `height` cells of `stack`, the call stack the first `call_height`
 // addresses of `calls`.
+#[repr(C)]
 pub struct Machine {
     pub stack: [u64; 1024],
     pub height: usize,
@@ -15,6 +16,7 @@ pub struct Machine {
 }
 
 // A label's definition: its name's place in the image, its target and the next record of the chain.
+#[repr(C)]
 pub struct Label {
     pub start: u64,
     pub len: u64,

@@ -68,9 +68,9 @@ use Rattle.loader.proofs.answer.Symbol as answer-def
 use Rattle.loader.proofs.answer.Symbol.{name as #loader·answer}
 use Rattle.loader.proofs.answer.Met as answer-thm
 use Rattle.label_loader.specs.Loading.{linkedAt, FromBinary}
-use Rattle.label_loader.proofs.Again.{LentAgain, lends-again, comes-back}
-use Rattle.label_loader.proofs.Tests.{tests}
-use Rattle.label_loader.proofs.Turns.{yes-is, no-is, Began, Fits, State, Lower, falls, begun, inside, fit, onward, lower, over}
+use Rattle.by_hand.proofs.Again.{LentAgain, lends-again, comes-back}
+use Rattle.by_hand.proofs.Tests.{tests, yes-is, no-is}
+use Rattle.label_loader.proofs.Turns.{Began, Fits, State, Lower, falls, begun, inside, fit, onward, lower, over}
 use Rattle.label_loader.proofs.link as link
 use Rattle.label_loader.proofs.link.Symbol as link-def
 use Rattle.label_loader.proofs.link.Symbol.{name as #label-loader·link}

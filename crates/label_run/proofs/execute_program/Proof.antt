@@ -75,9 +75,9 @@ use Rattle.run.proofs.pack as pack
 use Rattle.run.proofs.pack.Symbol as pack-def
 use Rattle.run.proofs.pack.Symbol.{name as #run·pack}
 use Rattle.run.proofs.pack.Met as pack-thm
-use Rattle.label_run.proofs.Tests.{tests, yes-is, no-is}
-use Rattle.label_run.proofs.Again.{LentAgain, lends-again, comes-back}
-use Rattle.label_run.proofs.Local.{Numbers, numbers, Fit, Cell, Owned, Lent, Lender, lends-array, array-back}
+use Rattle.by_hand.proofs.Tests.{tests, yes-is, no-is}
+use Rattle.by_hand.proofs.Again.{LentAgain, lends-again, comes-back}
+use Rattle.by_hand.proofs.Local.{Numbers, numbers, Fit, Cell, Owned, Lent, Lender, lends-array, array-back}
 use Rattle.label_run.proofs.Runs.{core, packed, program, State, Lower, falls, starts, is-ready, onward, lower, fewer, over}
 use Rattle.label_run.proofs.lookup as lookup
 use Rattle.label_run.proofs.lookup.Symbol as lookup-def

@@ -61,7 +61,7 @@ use Rattle.lookup.proofs.judge as judge
 use Rattle.lookup.proofs.judge.Symbol as judge-def
 use Rattle.lookup.proofs.judge.Symbol.{name as #lookup·judge}
 use Rattle.lookup.proofs.judge.Met as judge-thm
-use Rattle.label_run.proofs.Tests.{tests, yes-is, no-is}
+use Rattle.by_hand.proofs.Tests.{tests, yes-is, no-is}
 use Rattle.label_run.proofs.Chain.{State, Lower, falls, starts, onward, lower, over}
 use Rattle.label_run.proofs.lookup.Key.{name as #label_run·lookup}
 use Rattle.label_run.proofs.lookup as lookup

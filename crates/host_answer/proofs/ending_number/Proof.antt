@@ -1,8 +1,8 @@
--- `host::ending_number` meets its contract. Assumes nothing.
+-- `host_answer::ending_number` meets its contract. Assumes nothing.
 use borrow.Author.Needs.{needs}
-use Rattle.host.specs.Layout.{endingNumber}
-use Rattle.host.proofs.ending_number.Statement.{statement}
-use Rattle.host.proofs.ending_number.Tie as tie
+use Rattle.host_answer.specs.Endings.{endingNumber}
+use Rattle.host_answer.proofs.ending_number.Statement.{statement}
+use Rattle.host_answer.proofs.ending_number.Tie as tie
 
 returns : tie.Need-returns
 unfolding endingNumber

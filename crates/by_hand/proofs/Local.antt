@@ -1,4 +1,4 @@
--- A local that is lent as a `&mut` for the lifetime of a call, and comes back; and an array of numbers that is so lent. It says nothing of the crate.
+-- A local that is lent as a `&mut` for the lifetime of a call, and comes back; and an array of numbers that is so lent. It says nothing of any crate.
 --     lends-local      the local's cell, at vs, and own h vs  ⊢ ⇛ ∃ γ. own (the `&κ mut T` ((b, 0), γ, h)) ∗ the lender's part
 --     local-back       [†κ] ∗ the lender's part ∗ res γ h  ⊢ ⇛ (the local's cell, at the machine values of h, ∗ own h of them)
 --     lends-array, array-back      the same of a `[T; n]` of unsigned numbers
