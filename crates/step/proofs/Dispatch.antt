@@ -4,7 +4,9 @@ use mathlib.Core.Path.{_≡_, refl}
 use mathlib.Core.Bool.{Bool, true, false, _&&_, _||_, and-false}
 use mathlib.Core.List.{List, [], _∷_}
 use mathlib.Core.Logic.{_⊎_, inl, inr}
-use Rattle.step_arith.specs.FirstBytes.{integerOf, floatOf, conversionOf}
+use Rattle.step_integer.specs.FirstBytes.{integerOf}
+use Rattle.step_float.specs.FirstBytes.{floatOf}
+use Rattle.step_convert.specs.FirstBytes.{conversionOf}
 use native.Mathlib.Omega.{arith}
 use lib.Dec.{eqb, leb}
 use lib.ListN.{getD}

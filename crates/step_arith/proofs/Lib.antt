@@ -1,4 +1,0 @@
-pub mod Tests
-pub mod IntegerLaws
-pub mod FloatLaws
-pub mod ConversionLaws

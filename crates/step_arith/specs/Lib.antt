@@ -1,2 +1,0 @@
-pub mod FirstBytes
-pub mod Traps
