@@ -11,13 +11,8 @@ use Rattle.loader.specs.Loading.{FromBinary, means, answerOf, freshAt, instsLef
 use Rattle.run.specs.declared.Ran.{Ran}
 use Rattle.run.specs.Runs.{ExecuteProgram}
 use Rattle.host_answer.specs.Endings.{endingNumber}
-use Rattle.host.specs.Layout.{Lent, slices, hasSizes, isMachine, machineOf, lentOf}
+use Rattle.lent_machine.specs.Layout.{Lent, hasSizes, isMachine, machineOf, lentOf}
 use Rattle.host.specs.Calls.{loadedBy, loadCall, ranBy, runCall}
-
--- a machine that was written back slice by slice
-pub written : (m : Machine) (s ca me ns : List ℕ) → s ≡ m .stack → ca ≡ m .calls → me ≡ m .memory → ns ≡ lentOf m .numbers → slices s ca me ns ≡ lentOf m
-unfolding lentOf
-written m s ca me ns a b c d = rw (a, b, c, d)
 
 -- a load that refuses, and one that accepts, whose machine m was written
 module _ (insts labels : List ℕ) (lent : Lent) where

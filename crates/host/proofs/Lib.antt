@@ -1,3 +1,1 @@
-mod Copies
-mod Sizes
 mod Answers

@@ -8,7 +8,11 @@ use Rattle.machine.specs.Encode.{Encoded, unencoded, encoded, encode, outputAft
 use Rattle.tables.specs.Tables.{instsOf, labelsOf, program}
 use Rattle.loader.specs.Loading.{instsLeft, labelsLeft}
 use Rattle.host_answer.specs.Endings.{endingNumber}
-use Rattle.host.specs.Layout.{Lent, hasSizes, isMachine, machineOf, lentOf, noMachine}
+use Rattle.lent_machine.specs.Layout.{Lent, hasSizes, isMachine, machineOf, lentOf}
+
+-- no machine is lent; a number of our own
+abbrev pub noMachine : ℕ
+noMachine = 50
 
 -- load: the answer, both tables and the machine's slices afterwards
 pub record LoadCall : Type 0 where

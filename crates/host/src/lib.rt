@@ -1,20 +1,17 @@
 // The calls of a host, from Rust or C: load, run and encode over lent slices, as docs/HOST.md lays them out.
 // None has a `requires`: each is right for slices of any length and contents.
 ghost use mathlib.Core.Path.{_≡_};
-ghost use Rattle.host.specs.Layout.{slices};
+ghost use Rattle.lent_machine.specs.Layout.{slices};
 ghost use Rattle.host.specs.Calls.{loadCall, runCall, encodeCall};
-
-mod lent;
-
-use crate::lent::has_sizes;
-use crate::lent::is_machine;
-use crate::lent::read_machine;
-use crate::lent::write_machine;
 use encoder::Written;
 use encoder::to_binary;
 use host_answer::Loaded;
 use host_answer::Ran;
 use host_answer::ending_number;
+use lent_machine::has_sizes;
+use lent_machine::is_machine;
+use lent_machine::read_machine;
+use lent_machine::write_machine;
 use loader::Loading;
 use loader::fresh;
 use loader::from_binary;

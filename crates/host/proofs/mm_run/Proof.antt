@@ -2,7 +2,7 @@
 use mathlib.Core.Path.{sym, _∙_}
 use borrow.Author.Tests.{not-true, not-false}
 use Rattle.host.specs.Calls.{runCall}
-use Rattle.host.proofs.Sizes.{sized}
+use Rattle.lent_machine.proofs.Sizes.{sized}
 use Rattle.host.proofs.Answers.{run-call}
 use borrow.Author.Needs.{needs}
 use Rattle.host.proofs.mm_run.Statement.{statement}

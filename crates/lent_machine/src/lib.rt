@@ -1,10 +1,10 @@
-// A machine as it is lent: four slices, read into a machine and written from one.
-// read_machine, write_machine and the copies have a `requires`: only the calls use them.
+// A machine as a host lends it: four slices, read into a machine and written from one.
+// read_machine and write_machine have a `requires`, that the tests before them passed: only the host's calls use them.
 ghost use mathlib.Core.Path.{_≡_};
 ghost use mathlib.Core.Bool.{true, cond};
 ghost use mathlib.Core.List.{[], _∷_};
 ghost use lib.ListN.{length};
-ghost use Rattle.host.specs.Layout.{slices, hasSizes, isMachine, machineOf, lentOf};
+ghost use Rattle.lent_machine.specs.Layout.{slices, hasSizes, isMachine, machineOf, lentOf};
 use machine::Machine;
 use step_core::CALL_LIMIT;
 use step_core::MEMORY_SIZE;

@@ -1,12 +1,12 @@
--- `host::lent::write_machine` meets its contract. Assumes nothing.
+-- `lent_machine::write_machine` meets its contract. Assumes nothing.
 use mathlib.Core.Path.{_≡_, sym, _∙_}
 use lib.ListN.{length}
 use borrow.Author.Needs.{needs}
-use Rattle.host.specs.Layout.{lentOf}
-use Rattle.host.proofs.Sizes.{sizes}
-use Rattle.host.proofs.Answers.{written}
-use Rattle.host.proofs.lent.write_machine.Statement.{statement}
-use Rattle.host.proofs.lent.write_machine.Tie as tie
+use Rattle.lent_machine.specs.Layout.{lentOf}
+use Rattle.lent_machine.proofs.Sizes.{sizes}
+use Rattle.lent_machine.proofs.Copies.{written}
+use Rattle.lent_machine.proofs.write_machine.Statement.{statement}
+use Rattle.lent_machine.proofs.write_machine.Tie as tie
 
 copy-numbers-requires : tie.Need-copy-numbers-requires
 copy-numbers-requires c κs = let l : length (c .before .before .before .before .before .before .before .before .before .args .m .stack) ≡ 1024 = search needs in sizes _ (c .before .before .before .before .before .before .before .before .before .pre) .stack-long ∙ sym l

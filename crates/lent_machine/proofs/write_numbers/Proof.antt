@@ -1,8 +1,8 @@
--- `host::lent::write_numbers` meets its contract. Assumes nothing.
+-- `lent_machine::write_numbers` meets its contract. Assumes nothing.
 use borrow.Author.Needs.{needs}
-use Rattle.host.proofs.Sizes.{five}
-use Rattle.host.proofs.lent.write_numbers.Statement.{statement}
-use Rattle.host.proofs.lent.write_numbers.Tie as tie
+use Rattle.lent_machine.proofs.Sizes.{five}
+use Rattle.lent_machine.proofs.write_numbers.Statement.{statement}
+use Rattle.lent_machine.proofs.write_numbers.Tie as tie
 
 slice-write-numbers-5 : tie.Need-slice-write-numbers-5
 slice-write-numbers-5 c = search needs depth 8

@@ -1,11 +1,11 @@
--- `host::lent::read_machine` meets its contract. Assumes nothing.
+-- `lent_machine::read_machine` meets its contract. Assumes nothing.
 use native.Mathlib.Omega.{arith}
 use mathlib.Core.Path.{refl, sym}
-use Rattle.host.specs.Layout.{machineOf}
-use Rattle.host.proofs.Sizes.{sizes, sized, flags-fit}
+use Rattle.lent_machine.specs.Layout.{machineOf}
+use Rattle.lent_machine.proofs.Sizes.{sizes, sized, flags-fit}
 use borrow.Author.Needs.{needs}
-use Rattle.host.proofs.lent.read_machine.Statement.{statement}
-use Rattle.host.proofs.lent.read_machine.Tie as tie
+use Rattle.lent_machine.proofs.read_machine.Statement.{statement}
+use Rattle.lent_machine.proofs.read_machine.Tie as tie
 
 copy-numbers-requires : tie.Need-copy-numbers-requires
 copy-numbers-requires c κs = sym (sizes _ (sized _ (c .before .before .before .before .before .pre)) .stack-long)

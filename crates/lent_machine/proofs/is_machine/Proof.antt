@@ -1,11 +1,11 @@
--- `host::lent::is_machine` meets its contract. Assumes nothing.
+-- `lent_machine::is_machine` meets its contract. Assumes nothing.
 use native.Mathlib.Omega.{arith}
 use mathlib.Core.Path.{sym, _∙_}
 use borrow.Author.Tests.{not-true, not-false}
-use Rattle.host.proofs.Sizes.{sizes, other-sizes, high-flags, halted-decides}
+use Rattle.lent_machine.proofs.Sizes.{sizes, other-sizes, high-flags, halted-decides}
 use borrow.Author.Needs.{needs}
-use Rattle.host.proofs.lent.is_machine.Statement.{statement}
-use Rattle.host.proofs.lent.is_machine.Tie as tie
+use Rattle.lent_machine.proofs.is_machine.Statement.{statement}
+use Rattle.lent_machine.proofs.is_machine.Tie as tie
 
 returns : tie.Need-returns
 returns c = sym (other-sizes _ (sym (c .before .has-sizes .ensures) ∙ not-true _ (c .if1 .taken)))

@@ -1,12 +1,12 @@
--- `host::lent::copy_bytes` meets its contract. Assumes nothing.
+-- `lent_machine::copy_bytes` meets its contract. Assumes nothing.
 use Prim.Native.Nat.{_-_}
 use mathlib.Core.Path.{refl}
 use native.Mathlib.Omega.{arith}
 use lib.ListN.{length}
 use borrow.Author.Needs.{needs}
-use Rattle.host.proofs.Copies.{Copied, copied-more, copied-all}
-use Rattle.host.proofs.lent.copy_bytes.Statement.{statement}
-use Rattle.host.proofs.lent.copy_bytes.Tie as tie
+use Rattle.lent_machine.proofs.Copies.{Copied, copied-more, copied-all}
+use Rattle.lent_machine.proofs.copy_bytes.Statement.{statement}
+use Rattle.lent_machine.proofs.copy_bytes.Tie as tie
 
 abbrev Inv-loop : tie.InvT-loop
 Inv-loop from to₀ i₀ to i = Copied from to i

@@ -1,4 +1,4 @@
--- How a machine crosses to a host, as docs/HOST.md lays them out.
+-- A machine as a host lends it: four slices, as docs/HOST.md lays them out.
 use Prim.Native.Nat.{ℕ}
 use mathlib.Core.Bool.{Bool, cond, _&&_}
 use mathlib.Core.List.{List, [], _∷_}
@@ -51,7 +51,3 @@ lentOf m =
       memory = m .memory;
       numbers = m .height ∷ callHeight m ∷ m .flags ∷ m .ip ∷ cond (m .halted) 1 0 ∷ [];
     }
-
--- no machine is lent; a number of our own
-abbrev pub noMachine : ℕ
-noMachine = 50

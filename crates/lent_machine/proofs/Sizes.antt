@@ -10,7 +10,7 @@ use lib.Seq.{sets, sets-eq}
 use borrow.Author.Tests.{eqb-true, ltb-true, lt-ltb, le-ltb}
 use Rattle.inst.proofs.Laws.{and-left, and-right}
 use Rattle.machine.specs.Limits.{stackLimit, callLimit, memorySize}
-use Rattle.host.specs.Layout.{Lent, hasSizes, isMachine}
+use Rattle.lent_machine.specs.Layout.{Lent, hasSizes, isMachine}
 
 -- behind tests that hold the last one decides
 pub last-decides : (a b c d : Bool) → a ≡ true → b ≡ true → c ≡ true → d ≡ (a && b && c && d)

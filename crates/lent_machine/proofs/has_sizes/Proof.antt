@@ -1,9 +1,9 @@
--- `host::lent::has_sizes` meets its contract. Assumes nothing.
+-- `lent_machine::has_sizes` meets its contract. Assumes nothing.
 use borrow.Author.Tests.{eq-eqb, ne-eqb}
-use Rattle.host.specs.Layout.{hasSizes}
-use Rattle.host.proofs.Sizes.{last-decides}
-use Rattle.host.proofs.lent.has_sizes.Statement.{statement}
-use Rattle.host.proofs.lent.has_sizes.Tie as tie
+use Rattle.lent_machine.specs.Layout.{hasSizes}
+use Rattle.lent_machine.proofs.Sizes.{last-decides}
+use Rattle.lent_machine.proofs.has_sizes.Statement.{statement}
+use Rattle.lent_machine.proofs.has_sizes.Tie as tie
 
 returns : tie.Need-returns
 unfolding hasSizes
