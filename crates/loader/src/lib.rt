@@ -8,14 +8,12 @@ mod checking;
 mod filling;
 mod reading;
 
-pub use checking::check;
 pub use filling::answer;
 pub use filling::begin;
 pub use filling::fill;
 use filling::link;
 use inst::Inst;
 use machine::Machine;
-pub use reading::next_inst;
 pub use reading::same_name;
 use tables::RECORD;
 

@@ -119,7 +119,7 @@ fn labelled(c: Counts, start: bool, index: usize) -> Counts
     }
 }
 
-// One instruction more: 2, 3 or 4, then 5, 6. The answer is that of whatever scan the counts stand for: only our own crates
+// One instruction more: 2, 3 or 4, then 5, 6. The answer is that of whatever scan the counts stand for: only the two passes
 // call it, with counts that stand for one.
 pub fn next_inst(image: &[u8], c: Counts) -> Next
     ensures { λ r. ⌜ ((s : Scan) → 0 < length (s .labels) → c ≡ countsOf (now (image .entry)) s → r ≡ nextOf (now (image .entry)) (scanOne s (fromBytes (now (image .entry)) (s .at)))) ⌝ }
