@@ -24,7 +24,6 @@ use step_flow::calls::ret;
 use step_flow::jumps::compare;
 use step_integer::integer_step;
 use step_stack::cells;
-use step_stack::memory as bytes;
 
 // So many instructions can be known, from the first on.
 pub const KNOWN_LIMIT: usize = 4096;
@@ -184,14 +183,14 @@ fn execute_known(
         35 => success(convert(core, stack, 35), flags),
         36 => success(convert(core, stack, 36), flags),
         37 => next_known(core, flags),
-        38 => success(bytes::read(core, stack, memory), flags),
-        39 => success(bytes::write(core, stack, memory), flags),
-        40 => success(bytes::read(core, stack, memory), flags),
-        41 => success(bytes::write(core, stack, memory), flags),
-        42 => success(bytes::read(core, stack, memory), flags),
-        43 => success(bytes::write(core, stack, memory), flags),
-        44 => success(bytes::read(core, stack, memory), flags),
-        45 => success(bytes::write(core, stack, memory), flags),
+        38 => success(step_memory::read(core, stack, memory), flags),
+        39 => success(step_memory::write(core, stack, memory), flags),
+        40 => success(step_memory::read(core, stack, memory), flags),
+        41 => success(step_memory::write(core, stack, memory), flags),
+        42 => success(step_memory::read(core, stack, memory), flags),
+        43 => success(step_memory::write(core, stack, memory), flags),
+        44 => success(step_memory::read(core, stack, memory), flags),
+        45 => success(step_memory::write(core, stack, memory), flags),
         1 => success(cells::push(core, stack, insts[ip * 4 + 1]), flags),
         _ => Quick::Stop,
     }

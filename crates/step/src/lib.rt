@@ -32,7 +32,6 @@ use step_flow::jumps::jump;
 use step_flow::jumps::jump_if;
 use step_integer::integer_step;
 use step_stack::cells;
-use step_stack::memory as bytes;
 
 // A step's answer; or the start and length of the name whose lookup it needs.
 pub enum Tried {
@@ -113,8 +112,8 @@ fn execute_instruction(
         27 | 46 => dump(core, stack, v),
         29 => ret(core, calls),
         31..=36 => convert(core, stack, op),
-        38 | 40 | 42 | 44 => bytes::read(core, stack, memory),
-        39 | 41 | 43 | 45 => bytes::write(core, stack, memory),
+        38 | 40 | 42 | 44 => step_memory::read(core, stack, memory),
+        39 | 41 | 43 | 45 => step_memory::write(core, stack, memory),
         69 => Executed::Halt(core),
         _ => onward(core, core.height),
     }

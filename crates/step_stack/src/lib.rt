@@ -1,3 +1,2 @@
-// The instructions on the data stack and on the memory.
+// The instructions on the data stack.
 pub mod cells;
-pub mod memory;

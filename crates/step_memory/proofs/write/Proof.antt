@@ -1,11 +1,11 @@
--- `step_stack::memory::write` meets its contract. Assumes nothing.
+-- `step_memory::write` meets its contract. Assumes nothing.
 use Rattle.machine.specs.Step.{write, _must_else_then_}
 use Rattle.machine.specs.Change.{moved, withStack, withMemory}
 use Rattle.step_core.proofs.Answers.{success, trapped}
 use borrow.Author.Tests.{lt-ltb, le-ltb, le-leb, lt-leb}
 use borrow.Author.Needs.{needs}
-use Rattle.step_stack.proofs.memory.write.Statement.{statement}
-use Rattle.step_stack.proofs.memory.write.Tie as tie
+use Rattle.step_memory.proofs.write.Statement.{statement}
+use Rattle.step_memory.proofs.write.Tie as tie
 
 returns : tie.Need-returns
 unfolding write _must_else_then_ moved withStack withMemory

@@ -1,11 +1,11 @@
--- `step_stack::memory::read` meets its contract. Assumes nothing.
+-- `step_memory::read` meets its contract. Assumes nothing.
 use Rattle.machine.specs.Step.{read, _must_else_then_}
 use Rattle.machine.specs.Change.{moved, withStack}
 use Rattle.step_core.proofs.Answers.{success, trapped}
 use borrow.Author.Tests.{lt-ltb, le-ltb}
 use borrow.Author.Needs.{needs}
-use Rattle.step_stack.proofs.memory.read.Statement.{statement}
-use Rattle.step_stack.proofs.memory.read.Tie as tie
+use Rattle.step_memory.proofs.read.Statement.{statement}
+use Rattle.step_memory.proofs.read.Tie as tie
 
 returns : tie.Need-returns
 unfolding read _must_else_then_ moved withStack
