@@ -1,17 +1,23 @@
 -- What the calls of the loader and of the run answer, as the host's calls answer it.
-use Prim.Native.Nat.{ℕ}
+use Prim.Native.Nat.{ℕ, _-_}
 use mathlib.Core.Path.{_≡_, refl}
-use mathlib.Core.Bool.{true}
-use mathlib.Core.List.{List}
+use mathlib.Core.Bool.{Bool, true, cond}
+use mathlib.Core.List.{List, [], _∷_}
+use lib.Dec.{eqb}
+use lib.ListN.{getD}
 use Rattle.machine.specs.declared.Machine.{Machine}
+use Rattle.machine.specs.declared.Ending.{Ending}
 use Rattle.machine.specs.Load.{Load, rejects, accepts}
 use Rattle.loader.specs.declared.Loading.{Loading}
 use Rattle.loader.specs.declared.Loading.the-variants.{Refused, Accepted}
 use Rattle.loader.specs.Loading.{FromBinary, means, answerOf, freshAt, instsLeft, labelsLeft}
-use Rattle.run.specs.declared.Ran.{Ran}
-use Rattle.run.specs.Runs.{ExecuteProgram}
+use Rattle.step_core.specs.declared.Core.{Core}
+use Rattle.step_core.specs.Parts.{callHeight, whole}
+use Rattle.run.specs.declared.progress.Progress.{Progress}
+use Rattle.run.specs.Turns.{endingOf}
+use Rattle.run.specs.Runs.{ExecuteParts}
 use Rattle.host_answer.specs.Endings.{endingNumber}
-use Rattle.lent_machine.specs.Layout.{Lent, hasSizes, isMachine, machineOf, lentOf}
+use Rattle.lent_machine.specs.Layout.{Lent, slices, hasSizes, isMachine, coreOf, machineOf, lentOf}
 use Rattle.host.specs.Calls.{loadedBy, loadCall, ranBy, runCall}
 
 -- a load that refuses, and one that accepts, whose machine m was written
@@ -39,13 +45,23 @@ module _ (image insts labels : List ℕ) (lent : Lent) (r : Loading) (insts′ l
   load-accepted ip count m lent′ e g w =
       rw (sized, f .insts-are, f .labels-are, w, g) (accepted-by insts labels lent _ ip count (rw e at (f .answers)))
 
+-- the parts that were read are the machine that is lent
+pub read-is : (l : Lent) (c : Core) (f : ℕ) (h : Bool) (s ca me : List ℕ) →
+    c ≡ coreOf (l .numbers) → f ≡ getD (l .numbers) 2 0 → h ≡ eqb (getD (l .numbers) 4 0) 1 → s ≡ l .stack → ca ≡ l .calls → me ≡ l .memory →
+    whole c f s ca me h ≡ machineOf l
+unfolding machineOf
+read-is l c f h s ca me p q r u v w = rw (p, q, r, u, v, w) refl
+
 -- a run over a machine m that was read, whose outcome was written back
-pub run-call : (image insts labels : List ℕ) (count : ℕ) (lent : Lent) (limit : ℕ) (dumps : List ℕ) (m : Machine) (r : Ran) (dumps′ : List ℕ) (lent′ : Lent) (n : ℕ) →
+pub run-call : (image insts labels : List ℕ) (count : ℕ) (lent : Lent) (limit : ℕ) (dumps : List ℕ) (m : Machine) (r : Progress) (s ca me dumps′ s′ ca′ me′ ns : List ℕ) (last : Ending) (n : ℕ) →
     isMachine lent ≡ true →
     m ≡ machineOf lent →
-    ExecuteProgram image insts labels count m limit dumps r dumps′ →
-    lent′ ≡ lentOf (r .machine) →
-    n ≡ endingNumber (r .ending) →
-    runCall image insts labels count lent limit dumps ≡ record { ending = n; steps = r .steps; dumped = r .dumped; lent = lent′; dumps = dumps′ }
-unfolding runCall ranBy
-run-call image insts labels count lent limit dumps m r dumps′ lent′ n is reads gives left last = rw (is, ← reads, ← gives, left, last) refl
+    ExecuteParts image insts labels count m limit dumps r s ca me dumps′ →
+    (s′ ≡ s) × (ca′ ≡ ca) × (me′ ≡ me) →
+    ns ≡ r .core .height ∷ callHeight (r .core) ∷ r .flags ∷ r .core .ip ∷ cond (eqb (r .ending) 0) 1 0 ∷ [] →
+    last ≡ endingOf (r .ending) (r .number) →
+    n ≡ endingNumber last →
+    runCall image insts labels count lent limit dumps ≡ record { ending = n; steps = limit - r .left; dumped = r .dumped; lent = slices s′ ca′ me′ ns; dumps = dumps′ }
+unfolding runCall ranBy lentOf
+run-call image insts labels count lent limit dumps m r s ca me dumps′ s′ ca′ me′ ns last n is reads ran wrote numbers ends number =
+    rw (is, ← reads, ← (ran .gives), wrote .0, wrote .1, wrote .2, numbers, number, ends) refl

@@ -8,14 +8,23 @@ use encoder::to_binary;
 use host_answer::Loaded;
 use host_answer::Ran;
 use host_answer::ending_number;
+use lent_machine::core_of;
+use lent_machine::flags_of;
 use lent_machine::has_sizes;
+use lent_machine::is_halted;
 use lent_machine::is_machine;
-use lent_machine::read_machine;
+use lent_machine::read_arrays;
+use lent_machine::write_arrays;
 use lent_machine::write_machine;
+use lent_machine::write_numbers;
 use loader::Loading;
 use loader::fresh;
 use loader::from_binary;
-use run::execute_program;
+use run::ending;
+use run::execute_parts;
+use step_core::CALL_LIMIT;
+use step_core::MEMORY_SIZE;
+use step_core::STACK_LIMIT;
 
 // No machine is lent; a number of our own.
 const NO_MACHINE: u64 = 50;
@@ -64,7 +73,8 @@ pub extern "C" fn mm_load(
     }
 }
 
-// The archive's only caller of execute_program: a second one would cost its speed.
+// The machine's arrays are copied once in and once out: by value they would be copied four times. The archive's only caller of
+// execute_parts: a second one would cost its speed.
 #[no_mangle]
 pub extern "C" fn mm_run(
     image: &[u8],
@@ -87,16 +97,39 @@ pub extern "C" fn mm_run(
             dumped: 0,
         };
     }
-    let m = read_machine(stack, calls, memory, numbers);
-    let r = execute_program(image, insts, labels, count as usize, m, limit, dumps);
-    let left = r.machine;
-    let last = r.ending;
-    write_machine(left, stack, calls, memory, numbers);
-    let ending = ending_number(last);
+    let mut s = [0u64; STACK_LIMIT];
+    let mut c = [0u64; CALL_LIMIT];
+    let mut b = [0u8; MEMORY_SIZE];
+    read_arrays(stack, calls, memory, &mut s, &mut c, &mut b);
+    let left = execute_parts(
+        image,
+        insts,
+        labels,
+        count as usize,
+        core_of(numbers),
+        flags_of(numbers),
+        is_halted(numbers),
+        limit,
+        &mut s,
+        &mut c,
+        &mut b,
+        dumps,
+    );
+    write_arrays(&s, &c, &b, stack, calls, memory);
+    let core = left.core;
+    write_numbers(
+        core.height,
+        core.call_height,
+        left.flags,
+        core.ip,
+        left.ending == 0,
+        numbers,
+    );
+    let last = ending(left.ending, left.number);
     Ran {
-        ending: ending,
-        steps: r.steps,
-        dumped: r.dumped as u64,
+        ending: ending_number(last),
+        steps: limit - left.left,
+        dumped: left.dumped as u64,
     }
 }
 

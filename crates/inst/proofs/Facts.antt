@@ -1,8 +1,9 @@
 -- What a well-formed record implies. Assumes nothing.
-use Prim.Native.Nat.{ℕ, _+_, _≤_}
+use Prim.Native.Nat.{ℕ, _+_, _≤_, _<_}
 use mathlib.Core.Path.{_≡_, refl}
 use mathlib.Core.Bool.{Bool, true, false}
 use mathlib.Core.List.{List}
+use native.Mathlib.Omega.{arith}
 use lib.Dec.{eqb, leb}
 use lib.ListN.{length}
 use borrow.Author.Tests.{leb-true, leb-false}
@@ -15,7 +16,9 @@ module _ (image : List ℕ) (i : Inst) (w : wellFormed image i ≡ true) where
   by-typ : (b : Bool) → leb (i .typ) 255 ≡ b → i .typ ≤ 255
   unfolding wellFormed fits
   by-typ true e = leb-true _ _ e
-  by-typ false e = never (rw (no-form (i .typ) (leb-false _ _ e)) at w)
+  by-typ false e =
+      let h : 255 < i .typ = leb-false _ _ e in
+      never (rw (no-form (i .typ) (omega arith) (λ e. omega arith)) at w)
 
   pub typ-byte : i .typ ≤ 255
   typ-byte = by-typ (leb (i .typ) 255) refl

@@ -37,17 +37,17 @@ pub or-right : (a b : Bool) → (a || b) ≡ false → b ≡ false
 or-right true b h = cc
 or-right false b h = h
 
--- a number that is no byte has no form
-module _ (op : ℕ) (h : 255 < op) where
-  other : (k : ℕ) → T (ltb k 256) → eqb op k ≡ false
-  other k t = let l : k < 256 = lit< t in ne-eqb op k (λ e. omega arith)
+-- a number past 63 has no form, but for 69
+module _ (op : ℕ) (h : 63 < op) (n : op ≡ 69 → ⊥) where
+  other : (k : ℕ) → T (ltb k 64) → eqb op k ≡ false
+  other k t = let l : k < 64 = lit< t in ne-eqb op k (λ e. omega arith)
 
-  above : (k : ℕ) → T (ltb k 256) → leb op k ≡ false
-  above k t = let l : k < 256 = lit< t in lt-leb op k (omega arith)
+  above : (k : ℕ) → T (ltb k 64) → leb op k ≡ false
+  above k t = let l : k < 64 = lit< t in lt-leb op k (omega arith)
 
   pub no-form : formOf op ≡ undefined
   unfolding formOf hasNone hasEight hasOne hasName
-  no-form = let t : T true = tt in simp (other, above, and-false)
+  no-form = let t : T true = tt in simp (other, above, ne-eqb op 69 n, and-false)
 
 -- the form of a number, the table's numbers backwards
 abbrev pub formAt : ℕ → Form

@@ -1,3 +1,3 @@
-mod Table
+pub mod Table
 pub mod Laws
 pub mod Facts

@@ -1,5 +1,5 @@
 -- The operand's form of each first byte, as document 01 lists them.
-use Prim.Native.Nat.{ℕ}
+use Prim.Native.Nat.{ℕ, _/_, _%_, _^_}
 use mathlib.Core.Bool.{Bool, cond, _&&_, _||_}
 use lib.Dec.{eqb, leb}
 
@@ -37,3 +37,7 @@ numberOf none = 1
 numberOf eight = 2
 numberOf one = 3
 numberOf name = 4
+
+-- whether bit k of a set's number is set
+abbrev pub isIn : ℕ → ℕ → Bool
+isIn set k = eqb (set / 2 ^ k % 2) 1

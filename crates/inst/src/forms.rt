@@ -1,6 +1,7 @@
-// The operand's form of each first byte, as one table.
+// The operand's form of each first byte.
 ghost use mathlib.Core.Path.{_≡_};
-ghost use Rattle.inst.specs.Forms.{numberOf, formOf};
+ghost use Prim.Native.Nat.{_<_};
+ghost use Rattle.inst.specs.Forms.{numberOf, formOf, isIn};
 
 // The forms as numbers.
 pub const UNDEFINED: u8 = 0;
@@ -13,273 +14,41 @@ pub const ONE: u8 = 3;
 
 pub const NAME: u8 = 4;
 
-const FORMS: [u8; 256] = [
-    NONE, // 0 NOP
-    EIGHT, // 1 PUSH
-    NONE, // 2 POP
-    NONE, // 3 INC
-    NONE, // 4 DEC
-    NONE, // 5 IADD
-    NONE, // 6 ISUB
-    NONE, // 7 IMUL
-    NONE, // 8 IDIV
-    NONE, // 9 CMP
-    EIGHT, // 10 SWAP
-    EIGHT, // 11 DUP
-    NAME, // 12 JE
-    NAME, // 13 JL
-    NAME, // 14 JLE
-    NAME, // 15 JG
-    NAME, // 16 JGE
-    NAME, // 17 JNE
-    NAME, // 18 JZ
-    NAME, // 19 JNZ
-    NAME, // 20 JMP
-    NAME, // 21 LABEL
-    NONE, // 22 BOT
-    NONE, // 23 FADD
-    NONE, // 24 FSUB
-    NONE, // 25 FMUL
-    NONE, // 26 FDIV
-    ONE, // 27 IDMP
-    NAME, // 28 CALL
-    NONE, // 29 RET
-    NAME, // 30 EXTERN
-    NONE, // 31 F2I
-    NONE, // 32 F2U
-    NONE, // 33 I2F
-    NONE, // 34 I2U
-    NONE, // 35 U2I
-    NONE, // 36 U2F
-    NAME, // 37 NATIVE
-    NONE, // 38 READ8
-    NONE, // 39 WRITE8
-    NONE, // 40 READ16
-    NONE, // 41 WRITE16
-    NONE, // 42 READ32
-    NONE, // 43 WRITE32
-    NONE, // 44 READ64
-    NONE, // 45 WRITE64
-    ONE, // 46 FDMP
-    UNDEFINED, // 47
-    UNDEFINED,
-    UNDEFINED,
-    UNDEFINED,
-    UNDEFINED,
-    UNDEFINED,
-    UNDEFINED,
-    UNDEFINED,
-    UNDEFINED,
-    UNDEFINED,
-    UNDEFINED,
-    UNDEFINED,
-    UNDEFINED,
-    UNDEFINED,
-    UNDEFINED,
-    UNDEFINED,
-    UNDEFINED,
-    UNDEFINED,
-    UNDEFINED,
-    UNDEFINED,
-    UNDEFINED,
-    UNDEFINED,
-    NONE, // 69 HALT
-    UNDEFINED, // 70
-    UNDEFINED,
-    UNDEFINED,
-    UNDEFINED,
-    UNDEFINED,
-    UNDEFINED,
-    UNDEFINED,
-    UNDEFINED,
-    UNDEFINED,
-    UNDEFINED,
-    UNDEFINED,
-    UNDEFINED,
-    UNDEFINED,
-    UNDEFINED,
-    UNDEFINED,
-    UNDEFINED,
-    UNDEFINED,
-    UNDEFINED,
-    UNDEFINED,
-    UNDEFINED,
-    UNDEFINED,
-    UNDEFINED,
-    UNDEFINED,
-    UNDEFINED,
-    UNDEFINED,
-    UNDEFINED,
-    UNDEFINED,
-    UNDEFINED,
-    UNDEFINED,
-    UNDEFINED,
-    UNDEFINED,
-    UNDEFINED,
-    UNDEFINED,
-    UNDEFINED,
-    UNDEFINED,
-    UNDEFINED,
-    UNDEFINED,
-    UNDEFINED,
-    UNDEFINED,
-    UNDEFINED,
-    UNDEFINED,
-    UNDEFINED,
-    UNDEFINED,
-    UNDEFINED,
-    UNDEFINED,
-    UNDEFINED,
-    UNDEFINED,
-    UNDEFINED,
-    UNDEFINED,
-    UNDEFINED,
-    UNDEFINED,
-    UNDEFINED,
-    UNDEFINED,
-    UNDEFINED,
-    UNDEFINED,
-    UNDEFINED,
-    UNDEFINED,
-    UNDEFINED,
-    UNDEFINED,
-    UNDEFINED,
-    UNDEFINED,
-    UNDEFINED,
-    UNDEFINED,
-    UNDEFINED,
-    UNDEFINED,
-    UNDEFINED,
-    UNDEFINED,
-    UNDEFINED,
-    UNDEFINED,
-    UNDEFINED,
-    UNDEFINED,
-    UNDEFINED,
-    UNDEFINED,
-    UNDEFINED,
-    UNDEFINED,
-    UNDEFINED,
-    UNDEFINED,
-    UNDEFINED,
-    UNDEFINED,
-    UNDEFINED,
-    UNDEFINED,
-    UNDEFINED,
-    UNDEFINED,
-    UNDEFINED,
-    UNDEFINED,
-    UNDEFINED,
-    UNDEFINED,
-    UNDEFINED,
-    UNDEFINED,
-    UNDEFINED,
-    UNDEFINED,
-    UNDEFINED,
-    UNDEFINED,
-    UNDEFINED,
-    UNDEFINED,
-    UNDEFINED,
-    UNDEFINED,
-    UNDEFINED,
-    UNDEFINED,
-    UNDEFINED,
-    UNDEFINED,
-    UNDEFINED,
-    UNDEFINED,
-    UNDEFINED,
-    UNDEFINED,
-    UNDEFINED,
-    UNDEFINED,
-    UNDEFINED,
-    UNDEFINED,
-    UNDEFINED,
-    UNDEFINED,
-    UNDEFINED,
-    UNDEFINED,
-    UNDEFINED,
-    UNDEFINED,
-    UNDEFINED,
-    UNDEFINED,
-    UNDEFINED,
-    UNDEFINED,
-    UNDEFINED,
-    UNDEFINED,
-    UNDEFINED,
-    UNDEFINED,
-    UNDEFINED,
-    UNDEFINED,
-    UNDEFINED,
-    UNDEFINED,
-    UNDEFINED,
-    UNDEFINED,
-    UNDEFINED,
-    UNDEFINED,
-    UNDEFINED,
-    UNDEFINED,
-    UNDEFINED,
-    UNDEFINED,
-    UNDEFINED,
-    UNDEFINED,
-    UNDEFINED,
-    UNDEFINED,
-    UNDEFINED,
-    UNDEFINED,
-    UNDEFINED,
-    UNDEFINED,
-    UNDEFINED,
-    UNDEFINED,
-    UNDEFINED,
-    UNDEFINED,
-    UNDEFINED,
-    UNDEFINED,
-    UNDEFINED,
-    UNDEFINED,
-    UNDEFINED,
-    UNDEFINED,
-    UNDEFINED,
-    UNDEFINED,
-    UNDEFINED,
-    UNDEFINED,
-    UNDEFINED,
-    UNDEFINED,
-    UNDEFINED,
-    UNDEFINED,
-    UNDEFINED,
-    UNDEFINED,
-    UNDEFINED,
-    UNDEFINED,
-    UNDEFINED,
-    UNDEFINED,
-    UNDEFINED,
-    UNDEFINED,
-    UNDEFINED,
-    UNDEFINED,
-    UNDEFINED,
-    UNDEFINED,
-    UNDEFINED,
-    UNDEFINED,
-    UNDEFINED,
-    UNDEFINED,
-    UNDEFINED,
-    UNDEFINED,
-    UNDEFINED,
-    UNDEFINED,
-    UNDEFINED,
-    UNDEFINED,
-    UNDEFINED,
-    UNDEFINED,
-    UNDEFINED, // 255
-];
+// The table of forms by first byte, kept as a set for each form, in which bit k stands for first byte k: an array would be built
+// anew at each use. 69 alone stands past the sets.
+const NONES: u64 = 0x3FDFA7C003FD;
+
+const EIGHTS: u64 = 0x000000000C02;
+
+const ONES: u64 = 0x400008000000;
+
+const NAMES: u64 = 0x0020503FF000;
+
+const HALT: u64 = 69;
+
+// Whether a first byte is in a set.
+fn is_in(set: u64, op: u64) -> bool
+    requires { ⌜ op < 64 ⌝ }
+    ensures { λ r. ⌜ r ≡ isIn set op ⌝ }
+{
+    (set >> op) % 2 == 1
+}
 
 // The form of a first byte. A number that is no byte is undefined too.
 pub fn form(op: u64) -> u8
     ensures { λ r. ⌜ r ≡ numberOf (formOf op) ⌝ }
 {
-    if op < 256 {
-        let i = op as usize;
-        FORMS[i]
-    } else {
-        UNDEFINED
+    if 64 <= op {
+        return if op == HALT { NONE } else { UNDEFINED };
     }
+    if is_in(NONES, op) {
+        return NONE;
+    }
+    if is_in(EIGHTS, op) {
+        return EIGHT;
+    }
+    if is_in(NAMES, op) {
+        return NAME;
+    }
+    if is_in(ONES, op) { ONE } else { UNDEFINED }
 }

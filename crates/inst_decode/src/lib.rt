@@ -96,7 +96,7 @@ fn is_negative(field: u64) -> bool
     field % 0x1000000000000 != 0
 }
 
-// The name behind a length field.
+// The name behind a length field. A refusal leaves at once: with an `else` the compiler passes the answer through memory.
 fn read_name(image: &[u8], at: usize, op: u64, field: u64) -> Decoded
     requires { ⌜ at + 9 ≤ length (now image) ⌝ }
     ensures { λ r. ⌜ means r ≡ readName (now (image .entry)) at op field ⌝ }
@@ -111,19 +111,18 @@ fn read_name(image: &[u8], at: usize, op: u64, field: u64) -> Decoded
         return Decoded::PastEnd;
     }
     let end = start + len;
-    if name_ok(&image[start..end]) {
-        Decoded::Read(
-            Inst {
-                typ: op,
-                val: 0,
-                start: start as u64,
-                len: magnitude,
-            },
-            9 + len,
-        )
-    } else {
-        Decoded::BadName
+    if !name_ok(&image[start..end]) {
+        return Decoded::BadName;
     }
+    Decoded::Read(
+        Inst {
+            typ: op,
+            val: 0,
+            start: start as u64,
+            len: magnitude,
+        },
+        9 + len,
+    )
 }
 
 // An operand that is a name.

@@ -38,6 +38,10 @@ sizes l h =
       numbers-long = eqb-true _ _ (and-right (a && b && c) d h);
     }
 
+-- the lengths of the three arrays
+pub array-sizes : (l : Lent) → hasSizes l ≡ true → (length (l .stack) ≡ stackLimit) × (length (l .calls) ≡ callLimit) × (length (l .memory) ≡ memorySize)
+array-sizes l h = let k = sizes l h in (k .stack-long, k .calls-long, k .memory-long)
+
 module _ (l : Lent) where
   flags-test : Bool
   flags-test = ltb (getD (l .numbers) 2 0) 256

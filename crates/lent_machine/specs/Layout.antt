@@ -7,6 +7,7 @@ use lib.ListN.{length, getD}
 use Rattle.machine.specs.declared.Machine.{Machine}
 use Rattle.machine.specs.Limits.{stackLimit, callLimit, memorySize}
 use Rattle.machine.specs.Change.{callHeight}
+use Rattle.step_core.specs.declared.Core.{Core}
 
 -- a machine as it is lent: both stacks' slots, the memory, and height, call height, flags, pointer, halted
 pub record Lent : Type 0 where
@@ -42,6 +43,10 @@ machineOf l =
       ip = getD (l .numbers) 3 0;
       halted = eqb (getD (l .numbers) 4 0) 1;
     }
+
+-- the numbers that a run's core has of it
+abbrev pub coreOf : List ℕ → Core
+coreOf ns = record { ip = getD ns 3 0; height = getD ns 0 0; «call_height» = getD ns 1 0 }
 
 unfoldable pub lentOf : Machine → Lent
 lentOf m =

@@ -1,12 +1,16 @@
-// A machine as a host lends it: four slices, read into a machine and written from one.
-// read_machine and write_machine have a `requires`, that the tests before them passed: only the host's calls use them.
+// A machine as a host lends it: four slices, read into arrays and numbers and written from them.
+// What reads and writes them has a `requires`: only the host's calls use it, behind their tests.
 ghost use mathlib.Core.Path.{_≡_};
 ghost use mathlib.Core.Bool.{true, cond};
+ghost use Prim.Native.Nat.{_<_};
 ghost use mathlib.Core.List.{[], _∷_};
-ghost use lib.ListN.{length};
-ghost use Rattle.lent_machine.specs.Layout.{slices, hasSizes, isMachine, machineOf, lentOf};
+ghost use lib.Dec.{eqb};
+ghost use lib.ListN.{length, getD};
+ghost use Rattle.machine.specs.Limits.{stackLimit, callLimit, memorySize};
+ghost use Rattle.lent_machine.specs.Layout.{slices, hasSizes, isMachine, coreOf, lentOf};
 use machine::Machine;
 use step_core::CALL_LIMIT;
+use step_core::Core;
 use step_core::MEMORY_SIZE;
 use step_core::STACK_LIMIT;
 
@@ -72,26 +76,64 @@ fn copy_bytes(from: &[u8], to: &mut [u8])
     }
 }
 
-pub fn read_machine(stack: &[u64], calls: &[u64], memory: &[u8], numbers: &[u64]) -> Machine
-    requires { ⌜ isMachine (slices (now stack) (now calls) (now memory) (now numbers)) ≡ true ⌝ }
-    ensures { λ r. ⌜ r ≡ machineOf (slices (now (stack .entry)) (now (calls .entry)) (now (memory .entry)) (now (numbers .entry))) ⌝ }
+// A machine's arrays, from what is lent.
+pub fn read_arrays(
+    stack: &[u64],
+    calls: &[u64],
+    memory: &[u8],
+    s: &mut [u64; STACK_LIMIT],
+    c: &mut [u64; CALL_LIMIT],
+    b: &mut [u8; MEMORY_SIZE],
+)
+    requires { ⌜ (length (now stack) ≡ stackLimit) × (length (now calls) ≡ callLimit) × (length (now memory) ≡ memorySize) ⌝ }
+    ensures { λ _. ⌜ (now (s .exit) ≡ now (stack .entry)) × (now (c .exit) ≡ now (calls .entry)) × (now (b .exit) ≡ now (memory .entry)) ⌝ }
 {
-    let mut s = [0u64; STACK_LIMIT];
-    let mut c = [0u64; CALL_LIMIT];
-    let mut b = [0u8; MEMORY_SIZE];
-    copy_numbers(stack, &mut s);
-    copy_numbers(calls, &mut c);
-    copy_bytes(memory, &mut b);
-    Machine {
-        stack: s,
-        height: numbers[HEIGHT] as usize,
-        calls: c,
-        call_height: numbers[CALL_HEIGHT] as usize,
-        memory: b,
-        flags: numbers[FLAGS] as u8,
+    copy_numbers(stack, s);
+    copy_numbers(calls, c);
+    copy_bytes(memory, b);
+}
+
+// And into what is lent.
+pub fn write_arrays(
+    s: &[u64; STACK_LIMIT],
+    c: &[u64; CALL_LIMIT],
+    b: &[u8; MEMORY_SIZE],
+    stack: &mut [u64],
+    calls: &mut [u64],
+    memory: &mut [u8],
+)
+    requires { ⌜ (length (now stack) ≡ stackLimit) × (length (now calls) ≡ callLimit) × (length (now memory) ≡ memorySize) ⌝ }
+    ensures { λ _. ⌜ (now (stack .exit) ≡ now (s .entry)) × (now (calls .exit) ≡ now (c .entry)) × (now (memory .exit) ≡ now (b .entry)) ⌝ }
+{
+    copy_numbers(s, stack);
+    copy_numbers(c, calls);
+    copy_bytes(b, memory);
+}
+
+// The numbers of a run's core.
+pub fn core_of(numbers: &[u64]) -> Core
+    requires { ⌜ length (now numbers) ≡ 5 ⌝ }
+    ensures { λ r. ⌜ r ≡ coreOf (now (numbers .entry)) ⌝ }
+{
+    Core {
         ip: numbers[IP] as usize,
-        halted: numbers[HALTED] == 1,
+        height: numbers[HEIGHT] as usize,
+        call_height: numbers[CALL_HEIGHT] as usize,
     }
+}
+
+pub fn flags_of(numbers: &[u64]) -> u8
+    requires { ⌜ (length (now numbers) ≡ 5) × (getD (now numbers) 2 0 < 256) ⌝ }
+    ensures { λ r. ⌜ r ≡ getD (now (numbers .entry)) 2 0 ⌝ }
+{
+    numbers[FLAGS] as u8
+}
+
+pub fn is_halted(numbers: &[u64]) -> bool
+    requires { ⌜ length (now numbers) ≡ 5 ⌝ }
+    ensures { λ r. ⌜ r ≡ eqb (getD (now (numbers .entry)) 4 0) 1 ⌝ }
+{
+    numbers[HALTED] == 1
 }
 
 fn bit(b: bool) -> u64
@@ -100,7 +142,7 @@ fn bit(b: bool) -> u64
     if b { 1 } else { 0 }
 }
 
-fn write_numbers(
+pub fn write_numbers(
     height: usize,
     call_height: usize,
     flags: u8,
@@ -131,8 +173,6 @@ pub fn write_machine(
     let s = m.stack;
     let c = m.calls;
     let b = m.memory;
-    copy_numbers(&s, stack);
-    copy_numbers(&c, calls);
-    copy_bytes(&b, memory);
+    write_arrays(&s, &c, &b, stack, calls, memory);
     write_numbers(m.height, m.call_height, m.flags, m.ip, m.halted, numbers);
 }

@@ -3,6 +3,7 @@ use Prim.Native.Nat.{ℕ, _+_, _-_, _*_, _≤_, _<_, _^_}
 use mathlib.Core.Path.{_≡_}
 use mathlib.Core.Bool.{Bool, true, false, cond}
 use mathlib.Core.List.{List}
+use lib.Dec.{eqb}
 use lib.ListN.{length, take, drop, replicate}
 use Rattle.inst.specs.Records.{nameIn}
 use Rattle.machine.specs.declared.Machine.{Machine}
@@ -18,7 +19,7 @@ use Rattle.quick.specs.Known.{knownLimit, unknown, Known, Listed, Over}
 use Rattle.step.specs.Steps.{NamedAt, Sized}
 use Rattle.run.specs.declared.progress.Progress.{Progress}
 use Rattle.run.specs.declared.Ran.{Ran}
-use Rattle.run.specs.Turns.{more, closed}
+use Rattle.run.specs.Turns.{more, closed, endingOf}
 
 -- Of a run of p over the table xs with this limit and buffer: the limit less `left` steps led to the machine of c, f and the arrays, with n cells of
 -- the buffer filled, and what is known of the instructions is right
@@ -86,6 +87,12 @@ pub record Fit (xs : List ℕ) (count : ℕ) (c : Core) (r : Bool) : Type 0 wher
   pub well : r ≡ false → Inside c × (count * 4 ≤ length xs)
   pub unwell : r ≡ true → (image : List ℕ) (labels : List Label) (f : ℕ) (s ca me : List ℕ) →
       wellState (lent image (instsOf xs) labels count) (whole c f s ca me false) ≡ false
+
+-- of a run with this limit over lent tables: the outcome r with the arrays and the buffer that are left is the definition's result from m
+pub record ExecuteParts (image insts labels : List ℕ) (count : ℕ) (m : Machine) (limit : ℕ) (dumps : List ℕ) (r : Progress) (s ca me dumps′ : List ℕ) : Type 0 where
+  pub gives : record { machine = whole (r .core) (r .flags) s ca me (eqb (r .ending) 0); ending = endingOf (r .ending) (r .number); steps = limit - r .left; dumped = r .dumped; buffer = dumps′ } ≡ run (program image insts labels count) limit dumps m
+  pub fewer : r .left ≤ limit
+  pub long : length dumps′ ≡ length dumps
 
 -- what a run's answer says
 abbrev pub answer : Ran → List ℕ → Result

@@ -70,6 +70,18 @@ pub enum Turn {
     End(Progress),
 }
 
+// The same numbers, each by itself: copied as a whole out of one of several answers they go through memory, and the processor
+// waits for it (6 ns a dump).
+fn anew(core: Core) -> Core
+    ensures { λ r. ⌜ r ≡ core ⌝ }
+{
+    Core {
+        ip: core.ip,
+        height: core.height,
+        call_height: core.call_height,
+    }
+}
+
 fn dump_cell(room: &mut [u64], cell: u64)
     requires { ⌜ 0 < length (now room) ⌝ }
     ensures { λ r. ⌜ now (room .exit) ≡ set (now (room .entry)) 0 cell ⌝ }
@@ -92,14 +104,14 @@ fn follow_executed(
 {
     let after = left - 1;
     match answer {
-        Executed::Next(next) => Turn::Go(next, flags, n),
-        Executed::Compared(next, g) => Turn::Go(next, g, n),
+        Executed::Next(next) => Turn::Go(anew(next), flags, n),
+        Executed::Compared(next, g) => Turn::Go(anew(next), g, n),
         Executed::Dump(next, cell) => {
             if dumps.len() <= n {
                 Turn::End(ends(core, flags, left, n, NUMBER, 33))
             } else {
                 dump_cell(&mut dumps[n..], cell);
-                Turn::Go(next, flags, n + 1)
+                Turn::Go(anew(next), flags, n + 1)
             }
         }
         Executed::Halt(last) => Turn::End(ends(last, flags, after, n, HALTED, 0)),

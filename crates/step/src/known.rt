@@ -3,9 +3,10 @@
 // well formed; and if the instruction looks its name up, the lookup finds the target targets[i].
 // Neither the tables nor the image change during a run, so an entry stays true. A lookup that finds no target isn't
 // kept: it ends the run.
-ghost use Prim.Native.Nat.{_<_};
+ghost use Prim.Native.Nat.{_<_, _≤_};
 ghost use Rattle.step.specs.Keeps.{Keeps, KeepsJump};
 use quick::KNOWN_LIMIT;
+use quick::UNKNOWN;
 
 // Keeps a jump or CALL with its target. One past the arrays, or with a target past 16 bits, is looked up at each use.
 pub fn keep_jump(
@@ -36,4 +37,21 @@ pub fn keep(keys: &mut [u8; KNOWN_LIMIT], at: usize, op: u64)
     if at < KNOWN_LIMIT {
         keys[at] = op as u8;
     }
+}
+
+// So many instructions are tested at a time.
+const AHEAD: usize = 32;
+
+// Where the instructions to keep from an index on end: at most AHEAD of them, and none if the first is kept.
+pub fn end_of(keys: &[u8; KNOWN_LIMIT], from: usize, count: usize) -> usize
+    ensures { λ r. ⌜ r ≤ count ⌝ }
+{
+    if KNOWN_LIMIT <= from {
+        return 0;
+    }
+    if keys[from] != UNKNOWN {
+        return 0;
+    }
+    let end = from + AHEAD;
+    if count < end { count } else { end }
 }

@@ -7,11 +7,13 @@ ghost use Prim.Native.Nat.{_+_, _*_, _≤_, _<_};
 ghost use lib.ListN.{length};
 ghost use Rattle.inst.specs.Records.{wellFormed};
 ghost use Rattle.step_core.specs.Parts.{Inside, Tested, foundOf};
-ghost use Rattle.quick.specs.Known.{looksUp, instOf, Listed};
+ghost use Rattle.quick.specs.Known.{knownLimit, looksUp, instOf, Listed};
+ghost use Rattle.step.specs.Keeps.{KeepsPlain, Learns};
 ghost use Rattle.step.specs.Steps.{Jumps, Executes, Sized, Tries};
 
 mod known;
 
+use crate::known::end_of;
 use crate::known::keep;
 use crate::known::keep_jump;
 use inst::Inst;
@@ -64,6 +66,34 @@ fn looks_up(op: u64) -> bool
         true
     } else {
         if 12 <= op { op <= 20 } else { false }
+    }
+}
+
+// Keeps the instruction at an index if it is known once its record is tested: it needs no lookup.
+fn keep_plain(image: &[u8], insts: &[u64], keys: &mut [u8; KNOWN_LIMIT], at: usize)
+    requires { ⌜ at * 4 + 3 < length (now insts) ⌝ }
+    ensures { λ _. ⌜ KeepsPlain (now (image .entry)) (now (insts .entry)) (now (keys .entry)) at (now (keys .exit)) ⌝ }
+{
+    let op = insts[at * 4];
+    if looks_up(op) {
+        return;
+    }
+    if is_well_formed_at(image, insts, at) {
+        keep(keys, at, op);
+    }
+}
+
+// Keeps the instructions from an index on that need no lookup, unless the first is kept. So straight code comes here once in
+// many instructions, and the quick loop takes the others from their first use on.
+fn learn(image: &[u8], insts: &[u64], count: usize, keys: &mut [u8; KNOWN_LIMIT], from: usize)
+    requires { ⌜ (count * 4 ≤ length (now insts)) × (length (now keys) ≡ knownLimit) ⌝ }
+    ensures { λ _. ⌜ Learns (now (image .entry)) (now (insts .entry)) count (now (keys .entry)) (now (keys .exit)) ⌝ }
+{
+    let end = end_of(keys, from, count);
+    let mut i = from;
+    while i < end {
+        keep_plain(image, insts, keys, i);
+        i += 1;
     }
 }
 
@@ -152,7 +182,7 @@ pub fn step(
         keep_jump(keys, targets, ip, op, found);
         Tried::Done(execute_jump(op, found, flags, core, calls))
     } else {
-        keep(keys, ip, op);
+        learn(image, insts, count, keys, ip);
         Tried::Done(execute_instruction(op, insts[ip * 4 + 1], core, stack, calls, memory))
     }
 }

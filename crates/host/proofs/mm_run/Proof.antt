@@ -2,8 +2,8 @@
 use mathlib.Core.Path.{sym, _∙_}
 use borrow.Author.Tests.{not-true, not-false}
 use Rattle.host.specs.Calls.{runCall}
-use Rattle.lent_machine.proofs.Sizes.{sized}
-use Rattle.host.proofs.Answers.{run-call}
+use Rattle.lent_machine.proofs.Sizes.{sizes, sized, array-sizes, flags-fit}
+use Rattle.host.proofs.Answers.{read-is, run-call}
 use borrow.Author.Needs.{needs}
 use Rattle.host.proofs.mm_run.Statement.{statement}
 use Rattle.host.proofs.mm_run.Tie as tie
@@ -12,14 +12,43 @@ returns : tie.Need-returns
 unfolding runCall
 returns c = rw (sym (c .before .is-machine .ensures) ∙ not-true _ (c .if1 .taken))
 
-read-machine-requires : tie.Need-read-machine-requires
-read-machine-requires c κs = sym (c .before .before .before .before .before .is-machine .ensures) ∙ not-false _ (c .before .before .before .before .if1 .left)
+read-arrays-requires : tie.Need-read-arrays-requires
+read-arrays-requires c κs = array-sizes _ (sized _ (sym (c .before .before .before .before .before .before .before .is-machine .ensures) ∙ not-false _ (c .before .before .before .before .before .before .if1 .left)))
 
-write-machine-requires : tie.Need-write-machine-requires
-write-machine-requires c κs = sized _ (sym (c .before .before .before .before .before .before .before .before .before .before .before .before .before .before .before .is-machine .ensures) ∙ not-false _ (c .before .before .before .before .before .before .before .before .before .before .before .before .before .before .if1 .left))
+core-of-requires : tie.Need-core-of-requires
+core-of-requires c κs = sizes _ (sized _ (sym (c .before .before .before .before .before .before .before .before .before .is-machine .ensures) ∙ not-false _ (c .before .before .before .before .before .before .before .before .if1 .left))) .numbers-long
+
+flags-of-requires : tie.Need-flags-of-requires
+flags-of-requires c κs =
+    let m = sym (c .before .before .before .before .before .before .before .before .before .before .before .is-machine .ensures) ∙ not-false _ (c .before .before .before .before .before .before .before .before .before .before .if1 .left) in
+    (sizes _ (sized _ m) .numbers-long, flags-fit _ m)
+
+is-halted-requires : tie.Need-is-halted-requires
+is-halted-requires c κs = sizes _ (sized _ (sym (c .before .before .before .before .before .before .before .before .before .before .before .before .before .is-machine .ensures) ∙ not-false _ (c .before .before .before .before .before .before .before .before .before .before .before .before .if1 .left))) .numbers-long
+
+write-arrays-requires : tie.Need-write-arrays-requires
+write-arrays-requires c κs = array-sizes _ (sized _ (sym (c .before .before .before .before .before .before .before .before .before .before .before .before .before .before .before .before .before .before .before .before .before .before .before .before .before .before .before .is-machine .ensures) ∙ not-false _ (c .before .before .before .before .before .before .before .before .before .before .before .before .before .before .before .before .before .before .before .before .before .before .before .before .before .before .if1 .left)))
+
+write-numbers-requires : tie.Need-write-numbers-requires
+write-numbers-requires c κs = sizes _ (sized _ (sym (c .before .before .before .before .before .before .before .before .before .before .before .before .before .before .before .before .before .before .before .before .before .before .before .before .before .before .before .before .before .before .before .before .before .before .before .before .before .is-machine .ensures) ∙ not-false _ (c .before .before .before .before .before .before .before .before .before .before .before .before .before .before .before .before .before .before .before .before .before .before .before .before .before .before .before .before .before .before .before .before .before .before .before .before .if1 .left))) .numbers-long
+
+sub-steps : tie.Need-sub-t63
+sub-steps c = c .before .before .before .before .before .before .before .before .before .before .before .before .before .before .before .before .before .before .before .before .before .before .before .before .execute-parts .ensures .fewer
+
+same-length : tie.Need-same-length-9
+same-length c = c .before .before .before .before .before .before .before .before .before .before .before .before .before .before .before .before .before .before .before .before .before .before .before .before .execute-parts .ensures .long
 
 returns-2 : tie.Need-returns-2
-returns-2 c = run-call _ _ _ _ _ _ _ _ _ _ _ _ (sym (c .before .before .before .before .before .before .before .before .before .before .before .before .before .before .before .before .before .before .before .before .before .before .before .before .before .is-machine .ensures) ∙ not-false _ (c .before .before .before .before .before .before .before .before .before .before .before .before .before .before .before .before .before .before .before .before .before .before .before .before .if1 .left)) (c .before .before .before .before .before .before .before .before .before .before .before .before .before .before .before .before .before .before .before .read-machine .ensures) (c .before .before .before .before .before .before .before .before .before .before .before .before .before .before .before .before .before .execute-program .ensures) (c .before .before .before .before .before .before .before .before .before .write-machine .ensures) (c .ending-number .ensures)
+returns-2 c =
+    let read = c .before .before .before .before .before .before .before .before .before .before .before .before .before .before .before .before .before .before .before .before .before .before .before .before .before .before .before .before .before .before .before .before .before .before .before .read-arrays .ensures in
+    let ran = c .before .before .before .before .before .before .before .before .before .before .before .before .before .before .before .before .before .before .before .before .before .before .before .before .execute-parts .ensures in
+    run-call _ _ _ _ _ _ _ _ _ _ _ _ _ _ _ _ _ _ _ (sym (c .before .before .before .before .before .before .before .before .before .before .before .before .before .before .before .before .before .before .before .before .before .before .before .before .before .before .before .before .before .before .before .before .before .before .before .before .before .before .before .before .before .before .before .is-machine .ensures) ∙ not-false _ (c .before .before .before .before .before .before .before .before .before .before .before .before .before .before .before .before .before .before .before .before .before .before .before .before .before .before .before .before .before .before .before .before .before .before .before .before .before .before .before .before .before .before .if1 .left))
+    (read-is _ _ _ _ _ _ _ (c .before .before .before .before .before .before .before .before .before .before .before .before .before .before .before .before .before .before .before .before .before .before .before .before .before .before .before .before .before .before .before .before .before .core-of .ensures) (c .before .before .before .before .before .before .before .before .before .before .before .before .before .before .before .before .before .before .before .before .before .before .before .before .before .before .before .before .before .before .before .flags-of .ensures) (c .before .before .before .before .before .before .before .before .before .before .before .before .before .before .before .before .before .before .before .before .before .before .before .before .before .before .before .before .before .is-halted .ensures) (read .0) (read .1) (read .2))
+    ran
+    (c .before .before .before .before .before .before .before .before .before .before .before .before .before .before .before .write-arrays .ensures)
+    (c .before .before .before .before .before .write-numbers .ensures)
+    (c .before .before .ending .ensures)
+    (c .before .ending-number .ensures)
 
 pub mm-run-spec : {M : Type 1} → statement M
 mm-run-spec =
@@ -31,13 +60,19 @@ mm-run-spec =
     (λ c. search needs)
     (λ c. search needs)
     returns
-    read-machine-requires
+    read-arrays-requires
+    core-of-requires
+    flags-of-requires
+    is-halted-requires
     (λ c κs. search needs)
-    write-machine-requires
+    write-arrays-requires
+    write-numbers-requires
     (λ c κs. search needs)
+    (λ c κs. search needs)
+    sub-steps
     (λ c. search needs)
     (λ c. search needs)
     (λ c. search needs)
     (λ c. search needs)
-    (λ c. search needs)
+    same-length
     returns-2)

@@ -2,7 +2,7 @@
 use Prim.Native.Nat.{_<_, _+_, _≤_, _%_, _^_}
 use native.Mathlib.Omega.{arith}
 use lib.ListN.{length}
-use borrow.Author.Tests.{lt-ltb, le-ltb}
+use borrow.Author.Tests.{lt-ltb, le-ltb, not-true, not-false}
 use Rattle.inst_decode.specs.Decode.{means, readName}
 use Rattle.inst.proofs.Laws.{lent}
 use borrow.Author.Needs.{needs}
@@ -25,14 +25,14 @@ unfolding means readName
 returns-3 c =
     let s = c .before .before .before .before .before .before .before in
     let h : s .args .at + 9 + (s .args .field) % 2 ^ 48 ≤ length (s .args .image .now) = omega arith in
-    simp (← (c .before .before .before .before .before .is-negative .ensures), c .before .before .before .before .if1 .left, le-ltb _ _ h, ← (simp lent at (c .before .name-ok .ensures)), c .if3 .taken)
+    simp (← (c .before .before .before .before .before .is-negative .ensures), c .before .before .before .before .if1 .left, le-ltb _ _ h, ← (simp lent at (c .before .name-ok .ensures)), not-true (c .before .name-ok .result) (c .if3 .taken))
 
 returns-4 : tie.Need-returns-4
 unfolding means readName
 returns-4 c =
     let s = c .before .before .before .before .before .before .before in
     let h : s .args .at + 9 + (s .args .field) % 2 ^ 48 ≤ length (s .args .image .now) = omega arith in
-    simp (← (c .before .before .before .before .before .is-negative .ensures), c .before .before .before .before .if1 .left, le-ltb _ _ h, ← (simp lent at (c .before .name-ok .ensures)), c .if3 .left)
+    simp (← (c .before .before .before .before .before .is-negative .ensures), c .before .before .before .before .if1 .left, le-ltb _ _ h, ← (simp lent at (c .before .name-ok .ensures)), not-false (c .before .name-ok .result) (c .if3 .left))
 
 pub read-name-spec : {M : Type 1} → statement M
 read-name-spec =
@@ -48,6 +48,6 @@ read-name-spec =
     (λ c. search needs)
     (λ c. search needs)
     (λ c κs. search needs)
-    (λ c. search needs)
     returns-3
+    (λ c. search needs)
     returns-4)

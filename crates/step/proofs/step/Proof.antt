@@ -11,7 +11,7 @@ use Rattle.machine.specs.Lookup.{noLabel}
 use Rattle.quick.specs.Known.{instOf, KnownAt}
 use Rattle.tables.specs.Tables.{instsOf}
 use Rattle.lookup.specs.Walks.{lent}
-use Rattle.step.proofs.Keeping.{keeps-sized, keeps, keeps-jump-sized, keeps-jump}
+use Rattle.step.proofs.Keeping.{plain-formed, plain-no-lookup, learns-sized, learns, keeps-jump-sized, keeps-jump}
 use Rattle.step.proofs.Whole.{found-target, name-lies, known-at, step-past, step-unformed, made-found, made-acts}
 use borrow.Author.Needs.{needs}
 use Rattle.step.proofs.step.Statement.{statement}
@@ -34,8 +34,8 @@ keep-jump-requires c κs = omega (arith, typ-byte _ (instOf (c .before .before .
 execute-jump-requires : tie.Need-execute-jump-requires
 execute-jump-requires c κs = ((c .before .before .before .before .before .before .before .before .before .before .before .before .before .pre .0 .0, c .before .before .before .before .before .before .before .before .before .before .before .before .before .pre .0 .1, search needs), omega (arith, c .before .before .before .before .if4 .left), sym (c .before .before .before .before .before .before .looks-up .ensures) ∙ c .before .before .before .before .before .if3 .taken)
 
-keep-requires : tie.Need-keep-requires
-keep-requires c κs = omega (arith, typ-byte _ (instOf (c .before .before .before .before .before .before .before .before .before .args .insts .now) (c .before .before .before .before .before .before .before .before .before .args .core .ip)) (sym (c .before .before .before .before .before .is-well-formed-at .ensures) ∙ not-false _ (c .before .before .before .before .if2 .left)))
+learn-requires : tie.Need-learn-requires
+learn-requires c κs = (c .before .before .before .before .before .before .before .before .before .pre .1, c .before .before .before .before .before .before .before .before .before .pre .2 .keys-long)
 
 execute-instruction-requires : tie.Need-execute-instruction-requires
 execute-instruction-requires c κs = ((c .before .before .before .before .before .before .before .before .before .before .before .before .before .before .pre .0 .0, c .before .before .before .before .before .before .before .before .before .before .before .before .before .before .pre .0 .1, search needs), sym (c .before .before .before .before .before .before .before .looks-up .ensures) ∙ c .before .before .before .before .before .before .if3 .left)
@@ -62,14 +62,17 @@ returns-5 c =
     let formed = sym (c .before .before .before .before .before .before .before .before .before .before .before .is-well-formed-at .ensures) ∙ not-false _ (c .before .before .before .before .before .before .before .before .before .before .if2 .left) in
     let xs = c .before .before .before .before .before .before .before .before .before .before .before .before .before .before .before .args .insts .now in
     let ip = c .before .before .before .before .before .before .before .before .before .before .before .before .before .before .before .args .core .ip in
+    let image = c .before .before .before .before .before .before .before .before .before .before .before .before .before .before .before .args .image .now in
+    let targets = c .before .before .before .before .before .before .before .before .before .before .before .before .before .before .before .args .targets .now in
     let below = c .before .before .before .before .before .before .before .before .before .before .before .before .if1 .left in
+    let learnt = c .before .before .before .before .before .learn .ensures in
     record {
       small = c .execute-instruction .ensures noLabel 0 0 .small;
-      sized = keeps-sized (c .before .before .before .before .before .before .before .before .before .before .before .before .before .before .before .pre .2) (c .before .before .before .before .before .keep .ensures);
-      listed = keeps (c .before .before .before .before .before .before .before .before .before .before .before .before .before .before .before .pre .2) (c .before .before .before .before .before .keep .ensures) (λ (key t i : ℕ). i * 4 + 3 < length xs) (c .before .before .before .before .before .before .before .before .before .before .before .before .before .before .before .pre .3) (λ t. omega (arith, below, c .before .before .before .before .before .before .before .before .before .before .before .before .before .before .before .pre .1));
+      sized = learns-sized targets learnt (c .before .before .before .before .before .before .before .before .before .before .before .before .before .before .before .pre .2);
+      listed = learns targets learnt (λ (key t i : ℕ). i * 4 + 3 < length xs) (c .before .before .before .before .before .before .before .before .before .before .before .before .before .before .before .pre .3) (λ i t h. omega (arith, h .below, c .before .before .before .before .before .before .before .before .before .before .before .before .before .before .before .pre .1));
       tried = λ labels told. (
         made-acts _ xs labels (c .before .before .before .before .before .before .before .before .before .before .before .before .before .before .before .args .count) (c .before .before .before .before .before .before .before .before .before .before .before .before .before .before .before .pre .1) _ _ _ _ _ (c .before .before .before .before .before .before .before .before .before .before .before .before .before .before .before .pre .0) below formed _ _ _ _ (c .execute-instruction .ensures _ (getD xs (ip * 4 + 2) 0) (getD xs (ip * 4 + 3) 0)),
-        λ k. keeps (c .before .before .before .before .before .before .before .before .before .before .before .before .before .before .before .pre .2) (c .before .before .before .before .before .keep .ensures) (KnownAt (lent (c .before .before .before .before .before .before .before .before .before .before .before .before .before .before .before .args .image .now) (instsOf xs) labels (c .before .before .before .before .before .before .before .before .before .before .before .before .before .before .before .args .count)) xs) k (λ t. known-at _ xs labels _ (c .before .before .before .before .before .before .before .before .before .before .before .before .before .before .before .pre .1) ip below formed _ (λ l. never (sym (sym (c .before .before .before .before .before .before .before .before .looks-up .ensures) ∙ c .before .before .before .before .before .before .before .if3 .left) ∙ l))),
+        λ k. learns targets learnt (KnownAt (lent image (instsOf xs) labels (c .before .before .before .before .before .before .before .before .before .before .before .before .before .before .before .args .count)) xs) k (λ i t h. known-at image xs labels _ (c .before .before .before .before .before .before .before .before .before .before .before .before .before .before .before .pre .1) i (h .below) (plain-formed image xs i (h .plain)) t (λ l. never (sym (plain-no-lookup image xs i (h .plain)) ∙ l))),
       );
     }
 
@@ -95,7 +98,7 @@ step-spec =
     returns-3
     keep-jump-requires
     execute-jump-requires
-    keep-requires
+    learn-requires
     (λ c. search needs)
     (λ c. search needs)
     (λ c. search needs)

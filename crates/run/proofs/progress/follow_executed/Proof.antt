@@ -6,16 +6,16 @@ use Rattle.run.proofs.progress.follow_executed.Statement.{statement}
 use Rattle.run.proofs.progress.follow_executed.Tie as tie
 
 returns : tie.Need-returns
-returns c = for-answer (c .before .answer .given .1) (after-next _ _ _ _ _ (c .before .before .before .before .pre .0) (c .before .before .before .before .pre .1) _ (rw (c .before .answer .given .1) at (c .before .before .before .before .pre .2)))
+returns c = for-answer (c .before .before .answer .given .1) (rw (c .anew .ensures) (after-next _ _ _ _ _ (c .before .before .before .before .before .pre .0) (c .before .before .before .before .before .pre .1) _ (rw (c .before .before .answer .given .1) at (c .before .before .before .before .before .pre .2))))
 
 returns-2 : tie.Need-returns-2
-returns-2 c = for-answer (c .before .answer2 .given .1) (after-compared _ _ _ _ _ (c .before .before .before .before .pre .0) (c .before .before .before .before .pre .1) _ _ (rw (c .before .answer2 .given .1) at (c .before .before .before .before .pre .2)))
+returns-2 c = for-answer (c .before .before .answer2 .given .1) (rw (c .anew2 .ensures) (after-compared _ _ _ _ _ (c .before .before .before .before .before .pre .0) (c .before .before .before .before .before .pre .1) _ _ (rw (c .before .before .answer2 .given .1) at (c .before .before .before .before .before .pre .2))))
 
 returns-3 : tie.Need-returns-3
 returns-3 c = for-answer (c .before .before .before .answer3 .given .1) (rw (c .ends .ensures) (after-full _ _ _ _ _ (c .before .before .before .before .before .before .pre .0) (c .before .before .before .before .before .before .pre .1) (c .before .if1 .taken) _ _))
 
 returns-4 : tie.Need-returns-4
-returns-4 c = for-answer (c .before .before .before .before .before .before .answer3 .given .1) (rw (lent-set _ _ _ _ (c .before .before .before .before .if1 .left) (c .before .before .dump-cell .ensures)) (after-dump _ _ _ _ _ (c .before .before .before .before .before .before .before .before .before .pre .0) (c .before .before .before .before .before .before .before .before .before .pre .1) (c .before .before .before .before .if1 .left) _ _ (rw (c .before .before .before .before .before .before .answer3 .given .1) at (c .before .before .before .before .before .before .before .before .before .pre .2))))
+returns-4 c = for-answer (c .before .before .before .before .before .before .before .answer3 .given .1) (rw (c .anew3 .ensures, lent-set _ _ _ _ (c .before .before .before .before .before .if1 .left) (c .before .before .before .dump-cell .ensures)) (after-dump _ _ _ _ _ (c .before .before .before .before .before .before .before .before .before .before .pre .0) (c .before .before .before .before .before .before .before .before .before .before .pre .1) (c .before .before .before .before .before .if1 .left) _ _ (rw (c .before .before .before .before .before .before .before .answer3 .given .1) at (c .before .before .before .before .before .before .before .before .before .before .pre .2))))
 
 returns-5 : tie.Need-returns-5
 returns-5 c = for-answer (c .before .before .answer4 .given .1) (rw (c .ends2 .ensures) (after-halt _ _ _ _ _ (c .before .before .before .before .before .pre .0) (c .before .before .before .before .before .pre .1) _))
@@ -32,13 +32,16 @@ follow-executed-spec =
     (tie.spec
     (λ c. search needs)
     (λ c. search needs)
+    (λ c κs. search needs)
     (λ c. search needs)
+    (λ c κs. search needs)
     (λ c. search needs)
     (λ c κs. search needs)
     (λ c. search needs)
     (λ c. search needs)
     (λ c. search needs)
     (λ c. search needs)
+    (λ c κs. search needs)
     (λ c κs. search needs)
     (λ c. search needs)
     (λ c. search needs)
