@@ -16,9 +16,9 @@ use Rattle.step_core.specs.Parts.{callHeight, whole}
 use Rattle.run.specs.declared.progress.Progress.{Progress}
 use Rattle.run.specs.Turns.{endingOf}
 use Rattle.run.specs.Runs.{ExecuteParts}
-use Rattle.host_answer.specs.Endings.{endingNumber}
+use Rattle.host_answer.specs.declared.Ran.{Ran}
 use Rattle.lent_machine.specs.Layout.{Lent, slices, hasSizes, isMachine, coreOf, machineOf, lentOf}
-use Rattle.host.specs.Calls.{loadedBy, loadCall, ranBy, runCall}
+use Rattle.host.specs.Calls.{loadedBy, loadCall, ranBy, ranWith, runCall}
 
 -- a load that refuses, and one that accepts, whose machine m was written
 module _ (insts labels : List ℕ) (lent : Lent) where
@@ -53,15 +53,14 @@ unfolding machineOf
 read-is l c f h s ca me p q r u v w = rw (p, q, r, u, v, w) refl
 
 -- a run over a machine m that was read, whose outcome was written back
-pub run-call : (image insts labels : List ℕ) (count : ℕ) (lent : Lent) (limit : ℕ) (dumps : List ℕ) (m : Machine) (r : Progress) (s ca me dumps′ s′ ca′ me′ ns : List ℕ) (last : Ending) (n : ℕ) →
+pub run-call : (image insts labels : List ℕ) (count : ℕ) (lent : Lent) (limit : ℕ) (dumps : List ℕ) (m : Machine) (r : Progress) (s ca me dumps′ s′ ca′ me′ ns : List ℕ) (a : Ran) →
     isMachine lent ≡ true →
     m ≡ machineOf lent →
     ExecuteParts image insts labels count m limit dumps r s ca me dumps′ →
     (s′ ≡ s) × (ca′ ≡ ca) × (me′ ≡ me) →
     ns ≡ r .core .height ∷ callHeight (r .core) ∷ r .flags ∷ r .core .ip ∷ cond (eqb (r .ending) 0) 1 0 ∷ [] →
-    last ≡ endingOf (r .ending) (r .number) →
-    n ≡ endingNumber last →
-    runCall image insts labels count lent limit dumps ≡ record { ending = n; steps = limit - r .left; dumped = r .dumped; lent = slices s′ ca′ me′ ns; dumps = dumps′ }
+    a ≡ ranWith limit r →
+    runCall image insts labels count lent limit dumps ≡ record { ending = a .ending; steps = a .steps; dumped = a .dumped; lent = slices s′ ca′ me′ ns; dumps = dumps′ }
 unfolding runCall ranBy lentOf
-run-call image insts labels count lent limit dumps m r s ca me dumps′ s′ ca′ me′ ns last n is reads ran wrote numbers ends number =
-    rw (is, ← reads, ← (ran .gives), wrote .0, wrote .1, wrote .2, numbers, number, ends) refl
+run-call image insts labels count lent limit dumps m r s ca me dumps′ s′ ca′ me′ ns a is reads ran wrote numbers answers =
+    rw (is, ← reads, ← (ran .gives), wrote .0, wrote .1, wrote .2, numbers, answers) refl

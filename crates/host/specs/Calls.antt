@@ -1,5 +1,5 @@
 -- What each of the host's calls answers and leaves in every slice, by document 01's load, run and encode.
-use Prim.Native.Nat.{ℕ}
+use Prim.Native.Nat.{ℕ, _-_}
 use mathlib.Core.Bool.{cond}
 use mathlib.Core.List.{List}
 use Rattle.machine.specs.Load.{Load, rejects, accepts, load, fresh, countOf}
@@ -7,6 +7,9 @@ use Rattle.machine.specs.Run.{Result, run}
 use Rattle.machine.specs.Encode.{Encoded, unencoded, encoded, encode, outputAfter}
 use Rattle.tables.specs.Tables.{instsOf, labelsOf, program}
 use Rattle.loader.specs.Loading.{instsLeft, labelsLeft}
+use Rattle.run.specs.declared.progress.Progress.{Progress}
+use Rattle.run.specs.Turns.{endingOf}
+use Rattle.host_answer.specs.declared.Ran.{Ran}
 use Rattle.host_answer.specs.Endings.{endingNumber}
 use Rattle.lent_machine.specs.Layout.{Lent, hasSizes, isMachine, machineOf, lentOf}
 
@@ -53,6 +56,10 @@ pub record RunCall : Type 0 where
 unfoldable pub ranBy : Result → RunCall
 ranBy r =
     record { ending = endingNumber (r .ending); steps = r .steps; dumped = r .dumped; lent = lentOf (r .machine); dumps = r .buffer }
+
+-- between what the run leaves and what the call answers
+abbrev pub ranWith : ℕ → Progress → Ran
+ranWith limit r = record { ending = endingNumber (endingOf (r .ending) (r .number)); steps = limit - r .left; dumped = r .dumped }
 
 unfoldable pub runCall : List ℕ → List ℕ → List ℕ → ℕ → Lent → ℕ → List ℕ → RunCall
 runCall image insts labels count lent limit dumps =

@@ -1,8 +1,9 @@
 // The calls of a host, from Rust or C: load, run and encode over lent slices, as docs/HOST.md lays them out.
 // None has a `requires`: each is right for slices of any length and contents.
 ghost use mathlib.Core.Path.{_≡_};
+ghost use Prim.Native.Nat.{_≤_};
 ghost use Rattle.lent_machine.specs.Layout.{slices};
-ghost use Rattle.host.specs.Calls.{loadCall, runCall, encodeCall};
+ghost use Rattle.host.specs.Calls.{ranWith, loadCall, runCall, encodeCall};
 use encoder::Written;
 use encoder::to_binary;
 use host_answer::Loaded;
@@ -22,6 +23,7 @@ use loader::fresh;
 use loader::from_binary;
 use run::ending;
 use run::execute_parts;
+use run::progress::Progress;
 use step_core::CALL_LIMIT;
 use step_core::MEMORY_SIZE;
 use step_core::STACK_LIMIT;
@@ -73,6 +75,19 @@ pub extern "C" fn mm_load(
     }
 }
 
+// What a run answers, which began with this limit.
+fn ran(left: Progress, limit: u64) -> Ran
+    requires { ⌜ left .left ≤ limit ⌝ }
+    ensures { λ r. ⌜ r ≡ ranWith limit left ⌝ }
+{
+    let last = ending(left.ending, left.number);
+    Ran {
+        ending: ending_number(last),
+        steps: limit - left.left,
+        dumped: left.dumped as u64,
+    }
+}
+
 // The machine's arrays are copied once in and once out: by value they would be copied four times. The archive's only caller of
 // execute_parts: a second one would cost its speed.
 #[no_mangle]
@@ -116,21 +131,8 @@ pub extern "C" fn mm_run(
         dumps,
     );
     write_arrays(&s, &c, &b, stack, calls, memory);
-    let core = left.core;
-    write_numbers(
-        core.height,
-        core.call_height,
-        left.flags,
-        core.ip,
-        left.ending == 0,
-        numbers,
-    );
-    let last = ending(left.ending, left.number);
-    Ran {
-        ending: ending_number(last),
-        steps: limit - left.left,
-        dumped: left.dumped as u64,
-    }
+    write_numbers(left.core, left.flags, left.ending == 0, numbers);
+    ran(left, limit)
 }
 
 #[no_mangle]

@@ -7,6 +7,7 @@ ghost use mathlib.Core.List.{[], _∷_};
 ghost use lib.Dec.{eqb};
 ghost use lib.ListN.{length, getD};
 ghost use Rattle.machine.specs.Limits.{stackLimit, callLimit, memorySize};
+ghost use Rattle.step_core.specs.Parts.{callHeight};
 ghost use Rattle.lent_machine.specs.Layout.{slices, hasSizes, isMachine, coreOf, lentOf};
 use machine::Machine;
 use step_core::CALL_LIMIT;
@@ -142,21 +143,15 @@ fn bit(b: bool) -> u64
     if b { 1 } else { 0 }
 }
 
-pub fn write_numbers(
-    height: usize,
-    call_height: usize,
-    flags: u8,
-    ip: usize,
-    halted: bool,
-    numbers: &mut [u64],
-)
+// A machine's numbers, into what is lent.
+pub fn write_numbers(core: Core, flags: u8, halted: bool, numbers: &mut [u64])
     requires { ⌜ length (now numbers) ≡ 5 ⌝ }
-    ensures { λ _. ⌜ now (numbers .exit) ≡ height ∷ «call_height» ∷ flags ∷ ip ∷ cond halted 1 0 ∷ [] ⌝ }
+    ensures { λ _. ⌜ now (numbers .exit) ≡ core .height ∷ callHeight core ∷ flags ∷ core .ip ∷ cond halted 1 0 ∷ [] ⌝ }
 {
-    numbers[HEIGHT] = height as u64;
-    numbers[CALL_HEIGHT] = call_height as u64;
+    numbers[HEIGHT] = core.height as u64;
+    numbers[CALL_HEIGHT] = core.call_height as u64;
     numbers[FLAGS] = flags as u64;
-    numbers[IP] = ip as u64;
+    numbers[IP] = core.ip as u64;
     numbers[HALTED] = bit(halted);
 }
 
@@ -174,5 +169,10 @@ pub fn write_machine(
     let c = m.calls;
     let b = m.memory;
     write_arrays(&s, &c, &b, stack, calls, memory);
-    write_numbers(m.height, m.call_height, m.flags, m.ip, m.halted, numbers);
+    let core = Core {
+        ip: m.ip,
+        height: m.height,
+        call_height: m.call_height,
+    };
+    write_numbers(core, m.flags, m.halted, numbers);
 }

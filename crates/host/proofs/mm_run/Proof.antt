@@ -30,25 +30,23 @@ write-arrays-requires : tie.Need-write-arrays-requires
 write-arrays-requires c κs = array-sizes _ (sized _ (sym (c .before .before .before .before .before .before .before .before .before .before .before .before .before .before .before .before .before .before .before .before .before .before .before .before .before .before .before .is-machine .ensures) ∙ not-false _ (c .before .before .before .before .before .before .before .before .before .before .before .before .before .before .before .before .before .before .before .before .before .before .before .before .before .before .if1 .left)))
 
 write-numbers-requires : tie.Need-write-numbers-requires
-write-numbers-requires c κs = sizes _ (sized _ (sym (c .before .before .before .before .before .before .before .before .before .before .before .before .before .before .before .before .before .before .before .before .before .before .before .before .before .before .before .before .before .before .before .before .before .before .before .before .before .is-machine .ensures) ∙ not-false _ (c .before .before .before .before .before .before .before .before .before .before .before .before .before .before .before .before .before .before .before .before .before .before .before .before .before .before .before .before .before .before .before .before .before .before .before .before .if1 .left))) .numbers-long
+write-numbers-requires c κs = sizes _ (sized _ (sym (c .before .before .before .before .before .before .before .before .before .before .before .before .before .before .before .before .before .before .before .before .before .before .before .before .before .before .before .before .before .before .before .before .before .before .before .before .is-machine .ensures) ∙ not-false _ (c .before .before .before .before .before .before .before .before .before .before .before .before .before .before .before .before .before .before .before .before .before .before .before .before .before .before .before .before .before .before .before .before .before .before .before .if1 .left))) .numbers-long
 
-sub-steps : tie.Need-sub-t63
-sub-steps c = c .before .before .before .before .before .before .before .before .before .before .before .before .before .before .before .before .before .before .before .before .before .before .before .before .execute-parts .ensures .fewer
+ran-requires : tie.Need-ran-requires
+ran-requires c κs = c .before .before .before .before .before .before .before .before .before .before .before .before .before .before .before .before .before .before .before .before .execute-parts .ensures .fewer
 
 same-length : tie.Need-same-length-9
-same-length c = c .before .before .before .before .before .before .before .before .before .before .before .before .before .before .before .before .before .before .before .before .before .before .before .before .execute-parts .ensures .long
+same-length c = c .before .before .before .before .before .before .before .before .before .before .before .before .before .before .before .before .before .before .before .before .before .execute-parts .ensures .long
 
 returns-2 : tie.Need-returns-2
 returns-2 c =
-    let read = c .before .before .before .before .before .before .before .before .before .before .before .before .before .before .before .before .before .before .before .before .before .before .before .before .before .before .before .before .before .before .before .before .before .before .before .read-arrays .ensures in
-    let ran = c .before .before .before .before .before .before .before .before .before .before .before .before .before .before .before .before .before .before .before .before .before .before .before .before .execute-parts .ensures in
-    run-call _ _ _ _ _ _ _ _ _ _ _ _ _ _ _ _ _ _ _ (sym (c .before .before .before .before .before .before .before .before .before .before .before .before .before .before .before .before .before .before .before .before .before .before .before .before .before .before .before .before .before .before .before .before .before .before .before .before .before .before .before .before .before .before .before .is-machine .ensures) ∙ not-false _ (c .before .before .before .before .before .before .before .before .before .before .before .before .before .before .before .before .before .before .before .before .before .before .before .before .before .before .before .before .before .before .before .before .before .before .before .before .before .before .before .before .before .before .if1 .left))
-    (read-is _ _ _ _ _ _ _ (c .before .before .before .before .before .before .before .before .before .before .before .before .before .before .before .before .before .before .before .before .before .before .before .before .before .before .before .before .before .before .before .before .before .core-of .ensures) (c .before .before .before .before .before .before .before .before .before .before .before .before .before .before .before .before .before .before .before .before .before .before .before .before .before .before .before .before .before .before .before .flags-of .ensures) (c .before .before .before .before .before .before .before .before .before .before .before .before .before .before .before .before .before .before .before .before .before .before .before .before .before .before .before .before .before .is-halted .ensures) (read .0) (read .1) (read .2))
-    ran
-    (c .before .before .before .before .before .before .before .before .before .before .before .before .before .before .before .write-arrays .ensures)
-    (c .before .before .before .before .before .write-numbers .ensures)
-    (c .before .before .ending .ensures)
-    (c .before .ending-number .ensures)
+    let read = c .before .before .before .before .before .before .before .before .before .before .before .before .before .before .before .before .before .before .before .before .before .before .before .before .before .before .before .before .before .before .before .before .read-arrays .ensures in
+    run-call _ _ _ _ _ _ _ _ _ _ _ _ _ _ _ _ _ _ (sym (c .before .before .before .before .before .before .before .before .before .before .before .before .before .before .before .before .before .before .before .before .before .before .before .before .before .before .before .before .before .before .before .before .before .before .before .before .before .before .before .before .is-machine .ensures) ∙ not-false _ (c .before .before .before .before .before .before .before .before .before .before .before .before .before .before .before .before .before .before .before .before .before .before .before .before .before .before .before .before .before .before .before .before .before .before .before .before .before .before .before .if1 .left))
+    (read-is _ _ _ _ _ _ _ (c .before .before .before .before .before .before .before .before .before .before .before .before .before .before .before .before .before .before .before .before .before .before .before .before .before .before .before .before .before .before .core-of .ensures) (c .before .before .before .before .before .before .before .before .before .before .before .before .before .before .before .before .before .before .before .before .before .before .before .before .before .before .before .before .flags-of .ensures) (c .before .before .before .before .before .before .before .before .before .before .before .before .before .before .before .before .before .before .before .before .before .before .before .before .before .before .is-halted .ensures) (read .0) (read .1) (read .2))
+    (c .before .before .before .before .before .before .before .before .before .before .before .before .before .before .before .before .before .before .before .before .before .execute-parts .ensures)
+    (c .before .before .before .before .before .before .before .before .before .before .before .before .write-arrays .ensures)
+    (c .before .before .before .write-numbers .ensures)
+    (c .ran .ensures)
 
 pub mm-run-spec : {M : Type 1} → statement M
 mm-run-spec =
@@ -67,9 +65,7 @@ mm-run-spec =
     (λ c κs. search needs)
     write-arrays-requires
     write-numbers-requires
-    (λ c κs. search needs)
-    (λ c κs. search needs)
-    sub-steps
+    ran-requires
     (λ c. search needs)
     (λ c. search needs)
     (λ c. search needs)
