@@ -15,6 +15,15 @@ use Rattle.encoder.specs.Encoder.{sized}
 other : {A : Type 0} (m n : ℕ) → unencoded m ≡ encoded n → A
 other m n e = let z : _≡_ {A = ℕ} 0 1 = cc in absurd (omega arith)
 
+-- a length that is 0 where a test fails
+pub ill-len : (b : Bool) (n k : ℕ) → k ≡ cond b n 0 → 0 < n → k ≡ 0 → b ≡ false
+ill-len true n k e h z = absurd (omega arith)
+ill-len false n k e h z = refl
+
+pub well-len : (b : Bool) (n k : ℕ) → k ≡ cond b n 0 → (k ≡ 0 → ⊥) → (b ≡ true) × (k ≡ n)
+well-len true n k e z = (refl, e)
+well-len false n k e z = absurd (z e)
+
 -- by the room
 module _ (n room : ℕ) where
   pub sized-fits : n ≤ room → sized n room ≡ encoded n

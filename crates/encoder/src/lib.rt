@@ -8,9 +8,8 @@ ghost use lib.Seq.{sets};
 ghost use Rattle.machine.specs.Encode.{allWellFormed, bytesOfAll, encode, outputAfter};
 ghost use Rattle.tables.specs.Tables.{instsOf};
 ghost use Rattle.encoder.specs.Encoder.{means, sized};
-use inst::is_well_formed;
 use inst_encode::as_bytes;
-use inst_encode::encoded_len;
+use inst_encode::checked_len;
 use tables::RECORD;
 use tables::inst_at;
 
@@ -47,10 +46,10 @@ fn check(image: &[u8], insts: &[u64], count: usize, room: usize) -> Written
     let mut i = 0;
     while i < count {
         let inst = inst_at(insts, i);
-        if !is_well_formed(image, inst) {
+        let len = checked_len(image, inst);
+        if len == 0 {
             return Written::Refused(9);
         }
-        let len = encoded_len(inst);
         size = added(size, len, room);
         i += 1;
     }
