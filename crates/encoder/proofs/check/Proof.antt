@@ -13,10 +13,10 @@ use Rattle.encoder.proofs.check.Statement.{statement}
 use Rattle.encoder.proofs.check.Tie as tie
 
 abbrev Inv-loop : tie.InvT-loop
-Inv-loop image insts count room size₀ i₀ size i = Checked image (instsOf insts) count room size i
+Inv-loop image insts count room r₀ i₀ r i = Checked image (instsOf insts) count room r i
 
 abbrev μ-loop : tie.MeasureT-loop
-μ-loop image insts count room size₀ i₀ size i = count - i
+μ-loop image insts count room r₀ i₀ r i = count - i
 
 returns : tie.Need-returns Inv-loop μ-loop
 unfolding means
@@ -47,10 +47,13 @@ returns-2 c out e =
 loop-again : tie.Need-loop-again Inv-loop μ-loop
 loop-again c =
     let w = well-len _ _ _ (c .before .before .checked-len .ensures) (c .before .if2 .left) in
-    checked-next _ _ _ _ _ _ (c .before .before .before .before .before .loop .inv) _ _ _ (c .before .before .before .before .loop-test .taken) (c .before .before .before .inst-at .ensures) (w .0) (w .1) (c .added .ensures)
+    checked-next _ _ _ _ _ _ (c .before .before .before .before .before .loop .inv) _ _ _ (c .before .before .before .before .loop-test .taken) (c .before .before .before .inst-at .ensures) (w .0) (w .1) (c .taken .ensures)
+
+answer-requires : tie.Need-answer-requires Inv-loop μ-loop
+answer-requires c κs = c .before .loop .inv .fits .inside
 
 returns-3 : tie.Need-returns-3 Inv-loop μ-loop
-returns-3 c out e = checked-all _ _ _ _ _ _ (c .before .loop .inv) out e (c .loop-test .left)
+returns-3 c out e = checked-all _ _ _ _ _ _ (c .before .before .loop .inv) _ out e (c .before .loop-test .left) (c .answer .ensures)
 
 pub check-spec : {M : Type 1} → statement M
 check-spec =
@@ -67,4 +70,5 @@ check-spec =
     (λ c. search needs)
     (λ c. search needs)
     loop-again
+    answer-requires
     returns-3)
