@@ -59,17 +59,15 @@ fn is_well_formed_at(image: &[u8], insts: &[u64], at: usize) -> bool
     )
 }
 
-// The instructions that look their name up, as a set in which bit k stands for first byte k: the jumps, 12 to 20, and CALL, 28.
-const LOOKED_UP: u64 = 0x101FF000;
-
-// Whether an instruction looks its name up.
+// Whether an instruction looks its name up: the jumps and CALL.
 fn looks_up(op: u64) -> bool
     ensures { λ r. ⌜ r ≡ looksUp op ⌝ }
 {
-    if 64 <= op {
-        return false;
+    if op == 28 {
+        true
+    } else {
+        if 12 <= op { op <= 20 } else { false }
     }
-    (LOOKED_UP >> op) % 2 == 1
 }
 
 // Keeps the instruction at an index if it is known once its record is tested: it needs no lookup.
