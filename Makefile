@@ -85,8 +85,11 @@ host-rust: $(ARCHIVES)
 	cd host-rust && CARGO_TARGET_DIR=../target/host-rust cargo test --offline --quiet
 	cd host-rust && CARGO_TARGET_DIR=../target/host-rust cargo doc --offline --quiet
 
+# Four builds, each with more bytes before its code: the place of a loop in memory moves its speed.
 # The report goes to standard error: the original prints to standard output.
+PADS := 0 16 32 48
+
 bench: target/libmm_host.rlib target/original/libmm.rlib
 	cc -O3 -Wall -Wextra -Werror -c -o target/interpreter.o bench/interpreter.c
-	$(RUSTC) $(LIBS) -C link-arg=target/interpreter.o -o target/bench bench/main.rs
-	target/bench 10 7 docs/benchmarks.svg > /dev/null
+	for pad in $(PADS); do PAD=$$pad $(RUSTC) $(LIBS) -C link-arg=target/interpreter.o -o target/bench-$$pad bench/main.rs || exit 1; done
+	target/bench-0 report 10 7 docs/benchmarks.svg $(PADS:%=target/bench-%)

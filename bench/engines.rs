@@ -45,10 +45,10 @@ pub fn rust(image: &Vec<u8>, steps: u64) -> f64 {
 }
 
 /// ns a step of ours, and the machine that it leaves.
-pub fn ours(image: &[u8], steps: u64) -> (f64, mm_host::Machine) {
+pub fn ours(image: &[u8], steps: u64, room: &mut [u64]) -> (f64, mm_host::Machine) {
     let (tables, mut l) = loaded(image);
     let start = Instant::now();
-    let ran = mm_host::run(image, &tables, l.count, &mut l.machine, steps, &mut []);
+    let ran = mm_host::run(image, &tables, l.count, &mut l.machine, steps, room);
     let elapsed = since(start);
     assert_eq!((ran.ending, ran.steps), (Ending::Limit, steps));
     (elapsed / steps as f64, l.machine)
@@ -90,35 +90,33 @@ pub fn short_runs(image: &[u8], limit: u64) -> f64 {
     since(start) / runs as f64
 }
 
-/// ns of load and one run to HALT together: the original, ours; and of our run alone.
-pub fn once(image: &Vec<u8>) -> (f64, f64, f64) {
+/// ns of load and one run to HALT together: the original, ours; and of our run alone. The tables are lent again and again.
+pub fn once(image: &Vec<u8>, tables: &mut Tables) -> [f64; 3] {
     let start = Instant::now();
     let (mut machine, program) = mm::Mm::from_binary("bench", image, mm::Natives::new(), Vec::new()).ok().expect("the Rust loads it");
     assert!(machine.execute_program(false, None, &program).is_ok());
     let rust = since(start);
-    let mut tables = Tables::new();
     let start = Instant::now();
-    let mut l = mm_host::load(image, &mut tables).expect("it loads");
+    let mut l = mm_host::load(image, tables).expect("it loads");
     let between = Instant::now();
-    let ran = mm_host::run(image, &tables, l.count, &mut l.machine, u64::MAX, &mut []);
+    let ran = mm_host::run(image, tables, l.count, &mut l.machine, u64::MAX, &mut []);
     let (all, alone) = (since(start), since(between));
     assert_eq!(ran.ending, Ending::Halted);
-    (rust, all, alone)
+    [rust, all, alone]
 }
 
-/// ns of a load: the original, ours.
-pub fn loads(image: &Vec<u8>) -> (f64, f64) {
+/// ns of a load: the original, ours, into tables that are lent again and again.
+pub fn loads(image: &Vec<u8>, tables: &mut Tables) -> [f64; 2] {
     let start = Instant::now();
     assert!(mm::Mm::from_binary("bench", image, mm::Natives::new(), Vec::new()).is_ok());
     let rust = since(start);
-    let mut tables = Tables::new();
     let start = Instant::now();
-    assert!(mm_host::load(image, &mut tables).is_ok());
-    (rust, since(start))
+    assert!(mm_host::load(image, tables).is_ok());
+    [rust, since(start)]
 }
 
 /// ns of writing a program out: the original's as_bytes of each instruction, ours.
-pub fn encodes(image: &Vec<u8>) -> (f64, f64) {
+pub fn encodes(image: &Vec<u8>) -> [f64; 2] {
     let (_, program) = mm::Mm::from_binary("bench", image, mm::Natives::new(), Vec::new()).ok().expect("the Rust loads it");
     let start = Instant::now();
     let written: Vec<u8> = program.iter().flat_map(|(_, inst)| inst.as_bytes()).collect();
@@ -129,5 +127,5 @@ pub fn encodes(image: &Vec<u8>) -> (f64, f64) {
     let size = mm_host::encode(image, &tables, l.count, &mut out).expect("there is room");
     let ours = since(start);
     assert_eq!(out[..size], written);
-    (rust, ours)
+    [rust, ours]
 }

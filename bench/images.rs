@@ -127,6 +127,15 @@ pub fn images() -> Vec<(&'static str, Program)> {
     ]
 }
 
+// Every third step is a dump of the top cell to stream 1; it goes round for ever.
+pub fn dumps() -> Program {
+    let mut p = Program::started().int(5).label("l");
+    for _ in 0..30 {
+        p = p.op(0).op(3).op(27).op(1);
+    }
+    p.name(JMP, "l")
+}
+
 // Straight code that runs once: so many instructions, a few of each kind.
 pub fn straight(many: usize) -> Program {
     let mut p = Program::started();

@@ -1,6 +1,7 @@
 // Runs over label records with the machine in place, beside the core's on the same images, in turn.
 use crate::engines;
 use crate::images::{images, round, Program};
+use crate::measures::{least, tell};
 use mm_host::labels::{load, run, Tables};
 use mm_host::{Ending, Machine};
 use std::time::Instant;
@@ -32,22 +33,20 @@ fn short_run(image: &[u8], limit: u64) -> f64 {
     start.elapsed().as_nanos() as f64 / runs as f64
 }
 
+/// The core's and in place: ns a step, then ns of a whole run of limit 1, 50.
 pub fn runs(steps: u64, rounds: usize) {
-    eprintln!("\nthrough label records, in place, ns a step\n\n| image | core | in place | in place / core |\n|---|---|---|---|");
     for (name, Program(image)) in images() {
-        let (mut core, mut ours) = (f64::INFINITY, f64::INFINITY);
-        for _ in 0..rounds {
-            let (a, left) = engines::ours(&image, steps);
-            let (b, same) = in_place(&image, steps);
+        let ns = least(rounds, || {
+            let (core, left) = engines::ours(&image, steps, &mut []);
+            let (here, same) = in_place(&image, steps);
             assert!(left == same, "they leave other machines");
-            (core, ours) = (core.min(a), ours.min(b));
-        }
-        eprintln!("| {name} | {core:.2} | {ours:.2} | {:.2} |", ours / core);
+            [core, here]
+        });
+        tell(&format!("records: {name}"), &ns);
     }
     let image = round(400).0;
-    let least = |measure: &dyn Fn(u64) -> f64, limit| (0..rounds).map(|_| measure(limit)).fold(f64::INFINITY, f64::min);
     for limit in [1, 50] {
-        let (core, ours) = (least(&|n| engines::short_runs(&image, n), limit), least(&|n| short_run(&image, n), limit));
-        eprintln!("| ns a run of limit {limit} | {core:.0} | {ours:.0} | {:.2} |", ours / core);
+        let ns = least(rounds, || [engines::short_runs(&image, limit), short_run(&image, limit)]);
+        tell(&format!("records: a whole run of limit {limit}"), &ns);
     }
 }

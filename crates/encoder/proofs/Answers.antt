@@ -1,19 +1,29 @@
 -- The encoder's answer by its tests. Assumes nothing.
-use Prim.Native.Nat.{ℕ, _+_, _<_, _≤_}
-use mathlib.Core.Path.{_≡_, refl}
+use Prim.Native.Nat.{ℕ, _+_, _-_, _<_, _≤_}
+use mathlib.Core.Path.{_≡_, refl, sym}
 use mathlib.Core.Bool.{Bool, true, false, cond, _&&_, and-false}
 use mathlib.Core.List.{List}
 use native.Mathlib.Omega.{arith}
 use lib.Dec.{leb}
 use lib.ListN.{length, take}
-use borrow.Author.Tests.{leb-true, leb-false, le-leb, lt-leb}
+use borrow.Author.Tests.{leb-true, le-leb, lt-leb}
 use Rattle.inst.specs.declared.Inst.{Inst}
-use Rattle.inst.proofs.Laws.{and-left, and-right}
+use Rattle.inst.proofs.Laws.{never, and-left, and-right}
 use Rattle.machine.specs.Encode.{allWellFormed, bytesOfAll, unencoded, encoded, encode}
-use Rattle.encoder.specs.Encoder.{sized}
+use Rattle.encoder.specs.declared.Room.{Room}
+use Rattle.encoder.specs.Encoder.{sized, Fits}
 
 other : {A : Type 0} (m n : ℕ) → unencoded m ≡ encoded n → A
 other m n e = let z : _≡_ {A = ℕ} 0 1 = cc in absurd (omega arith)
+
+-- a length that is 0 where a test fails
+pub ill-len : (b : Bool) (n k : ℕ) → k ≡ cond b n 0 → 0 < n → k ≡ 0 → b ≡ false
+ill-len true n k e h z = absurd (omega arith)
+ill-len false n k e h z = refl
+
+pub well-len : (b : Bool) (n k : ℕ) → k ≡ cond b n 0 → (k ≡ 0 → ⊥) → (b ≡ true) × (k ≡ n)
+well-len true n k e z = (refl, e)
+well-len false n k e z = absurd (z e)
 
 -- by the room
 module _ (n room : ℕ) where
@@ -33,24 +43,26 @@ module _ (n room : ℕ) where
   unfolding sized
   fits-back m h = fits-by (leb n room) m refl h
 
-  long-by : (b : Bool) (m : ℕ) → leb n room ≡ b → unencoded m ≡ cond b (encoded n) (unencoded 10) → (m ≡ 10) × (room < n)
-  long-by true m e h = other m n h
-  long-by false m e h = (cc, leb-false n room e)
+-- the room behind `len` bytes more
+module _ (room n len : ℕ) (r : Room) (f : Fits room n r) where
+  short-by : (b : Bool) → r .short ≡ b → r .left < len → room < n + len
+  short-by true e l = let p = f .past e in omega arith
+  short-by false e l = let p = f .rest e in omega arith
 
-  pub long-back : (m : ℕ) → unencoded m ≡ sized n room → (m ≡ 10) × (room < n)
-  unfolding sized
-  long-back m h = long-by (leb n room) m refl h
+  pub taken-short : r .left < len → Fits room (n + len) (record { left = r .left; short = true })
+  taken-short l = record { inside = f .inside; rest = λ e. never (sym e); past = λ e. short-by (r .short) refl l }
 
--- by the room, with `len` bytes more
-module _ (m n len room : ℕ) where
-  pub added-none : unencoded m ≡ sized n room → unencoded m ≡ sized (n + len) room
-  added-none h = let b = long-back n room m h in rw (b .0, sized-long (n + len) room (omega arith))
+  pub taken-fits : len ≤ r .left → Fits room (n + len) (record { left = r .left - len; short = r .short })
+  taken-fits l =
+      let i = f .inside in
+      record { inside = omega arith; rest = λ e. (let p = f .rest e in omega arith); past = λ e. (let p = f .past e in omega arith) }
 
-  pub added-long : encoded m ≡ sized n room → room < m + len → unencoded 10 ≡ sized (n + len) room
-  added-long h l = let b = fits-back n room m h in rw (sized-long (n + len) room (omega arith))
-
-  pub added-fits : encoded m ≡ sized n room → m + len ≤ room → encoded (m + len) ≡ sized (n + len) room
-  added-fits h l = let b = fits-back n room m h in rw (b .0, sized-fits (n + len) room (omega arith))
+-- what is left tells how much was taken
+pub room-fits : (room n : ℕ) (r : Room) → Fits room n r → r .short ≡ false → encoded (room - r .left) ≡ sized n room
+room-fits room n r f e =
+    let p = f .rest e in
+    let q : room - r .left ≡ n = omega arith in
+    rw q (sym (sized-fits n room (omega arith)))
 
 -- 9, then by the room
 module _ (image : List ℕ) (is : List Inst) (count : ℕ) (out : List ℕ) where

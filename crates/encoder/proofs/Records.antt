@@ -10,14 +10,14 @@ use lib.ListN.{length, getD, take, drop, length-append, drop-of-length-le}
 use lib.Seq.{sets, drop-cons, getD-take, length-take-le, length-sets}
 use Rattle.inst.specs.declared.Inst.{Inst}
 use Rattle.inst.specs.Records.{wellFormed}
-use Rattle.inst.proofs.Laws.{and-left, and-right, sets-more}
+use Rattle.inst.proofs.Laws.{never, and-left, and-right, sets-more}
 use Rattle.inst_encode.specs.Encode.{asBytes, encodedSize}
 use Rattle.inst_encode.proofs.Facts.{size-is}
 use Rattle.machine.specs.Encode.{allWellFormed, bytesOfAll, encode, unencoded}
+use Rattle.encoder.specs.declared.Room.{Room}
 use Rattle.encoder.specs.declared.Written.{Written}
-use Rattle.encoder.specs.declared.Written.the-variants.{Bytes}
-use Rattle.encoder.specs.Encoder.{means, sized}
-use Rattle.encoder.proofs.Answers.{sized-fits, ill, whole}
+use Rattle.encoder.specs.Encoder.{means, sized, Fits}
+use Rattle.encoder.proofs.Answers.{ill, whole}
 
 -- what is left of the first `count` records from record i on
 abbrev pub left : List Inst → ℕ → ℕ → List Inst
@@ -36,49 +36,48 @@ module _ (is : List Inst) (count : ℕ) (within : count ≤ length is) where
   left-none : (i : ℕ) → count ≤ i → left is count i ≡ []
   left-none i h = let l : length (take count is) ≤ i = rw (length-take-le count is within) h in drop-of-length-le (take count is) l
 
--- the first pass at record i: all before are well formed, and `size` is the answer for their bytes
-pub record Checked (image : List ℕ) (is : List Inst) (count room : ℕ) (size : Written) (i : ℕ) : Type 0 where
+-- the first pass at record i: all before are well formed, and r is what their bytes left of the room
+pub record Checked (image : List ℕ) (is : List Inst) (count room : ℕ) (r : Room) (i : ℕ) : Type 0 where
   pub within : count ≤ length is
   pub inside : i ≤ count
   pub well : allWellFormed image (take count is) ≡ allWellFormed image (left is count i)
   pub bytes : ℕ
-  pub means-size : means size ≡ sized bytes room
+  pub fits : Fits room bytes r
   pub total : bytes + length (bytesOfAll image (left is count i)) ≡ length (bytesOfAll image (take count is))
 
 module _ (image : List ℕ) (is : List Inst) (count room : ℕ) where
-  pub checked-none : count ≤ length is → Checked image is count room (Bytes 0) 0
-  unfolding means
+  pub checked-none : count ≤ length is → Checked image is count room (record { left = room; short = false }) 0
   checked-none h =
-      record { within = h; inside = omega arith; well = refl; bytes = 0; means-size = sym (sized-fits 0 room (omega arith)); total = omega arith }
+      record { within = h; inside = omega arith; well = refl; bytes = 0; fits = record { inside = omega arith; rest = λ e. omega arith; past = λ e. never e }; total = omega arith }
 
-  module _ (size : Written) (i : ℕ) (s : Checked image is count room size i) where
+  module _ (r : Room) (i : ℕ) (s : Checked image is count room r i) where
     -- the next record is ill
-    pub checked-ill : (r : Inst) (out : List ℕ) → i < count → IsAt is i r → wellFormed image r ≡ false → encode image is count out ≡ unencoded 9
+    pub checked-ill : (x : Inst) (out : List ℕ) → i < count → IsAt is i x → wellFormed image x ≡ false → encode image is count out ≡ unencoded 9
     unfolding allWellFormed
-    checked-ill r out h e w = ill image is count out (s .well ∙ rw (left-next is count (s .within) i r h e, w))
+    checked-ill x out h e w = ill image is count out (s .well ∙ rw (left-next is count (s .within) i x h e, w))
 
     -- or its size is added
-    pub checked-next : (r : Inst) (len : ℕ) (size′ : Written) → i < count → IsAt is i r → wellFormed image r ≡ true → len ≡ encodedSize r
-        → ((n : ℕ) → means size ≡ sized n room → means size′ ≡ sized (n + len) room) → Checked image is count room size′ (i + 1)
+    pub checked-next : (x : Inst) (len : ℕ) (r′ : Room) → i < count → IsAt is i x → wellFormed image x ≡ true → len ≡ encodedSize x
+        → ((room n : ℕ) → Fits room n r → Fits room (n + len) r′) → Checked image is count room r′ (i + 1)
     unfolding allWellFormed bytesOfAll
-    checked-next r len size′ h e w l f =
-        let next = left-next is count (s .within) i r h e in
-        let t = simp (next, length-append, size-is image r w) at (s .total) in
+    checked-next x len r′ h e w l f =
+        let next = left-next is count (s .within) i x h e in
+        let t = simp (next, length-append, size-is image x w) at (s .total) in
         record {
           within = s .within;
           inside = omega arith;
           well = s .well ∙ rw (next, w);
           bytes = s .bytes + len;
-          means-size = f (s .bytes) (s .means-size);
+          fits = f room (s .bytes) (s .fits);
           total = omega arith;
         }
 
-    pub checked-all : (out : List ℕ) → length out ≡ room → count ≤ i → means size ≡ encode image is count out
+    pub checked-all : (w : Written) (out : List ℕ) → length out ≡ room → count ≤ i → ((n : ℕ) → Fits room n r → means w ≡ sized n room) → means w ≡ encode image is count out
     unfolding allWellFormed bytesOfAll
-    checked-all out e h =
+    checked-all w out e h f =
         let none = left-none is count (s .within) i h in
         let t = rw (none, add-zero) at (s .total) in
-        s .means-size ∙ rw (t, ← e) (sym (whole image is count out (s .within) (s .well ∙ rw none)))
+        f (s .bytes) (s .fits) ∙ rw (t, ← e) (sym (whole image is count out (s .within) (s .well ∙ rw none)))
 
 -- the second pass at record i: storing what is left from `at` on gives the whole
 pub record Stored (image : List ℕ) (is : List Inst) (count : ℕ) (out₀ out : List ℕ) (at i : ℕ) : Type 0 where

@@ -7,10 +7,9 @@ ghost use lib.ListN.{length, take};
 ghost use lib.Seq.{sets};
 ghost use Rattle.machine.specs.Encode.{allWellFormed, bytesOfAll, encode, outputAfter};
 ghost use Rattle.tables.specs.Tables.{instsOf};
-ghost use Rattle.encoder.specs.Encoder.{means, sized};
-use inst::is_well_formed;
+ghost use Rattle.encoder.specs.Encoder.{means, sized, Fits};
 use inst_encode::as_bytes;
-use inst_encode::encoded_len;
+use inst_encode::checked_len;
 use tables::RECORD;
 use tables::inst_at;
 
@@ -20,20 +19,37 @@ pub enum Written {
     Bytes(usize),
 }
 
-// The answer for records of `size` and one of `len` bytes more: 10 once they pass the room. No sum wraps.
-fn added(size: Written, len: usize, room: usize) -> Written
-    ensures { λ r. ⌜ ((n : ℕ) → means size ≡ sized n room → means r ≡ sized (n + len) room) ⌝ }
+// What is left of the output's room, and whether records passed it.
+struct Room {
+    left: usize,
+    short: bool,
+}
+
+// The room behind one record of `len` bytes more. No sum wraps.
+fn taken(r: Room, len: usize) -> Room
+    ensures { λ s. ⌜ ((room n : ℕ) → Fits room n r → Fits room (n + len) s) ⌝ }
 {
-    let Written::Bytes(n) = size else {
-        return size;
-    };
-    if len > room {
+    if r.left < len {
+        return Room {
+            left: r.left,
+            short: true,
+        };
+    }
+    Room {
+        left: r.left - len,
+        short: r.short,
+    }
+}
+
+// The answer for what is left of a room.
+fn answer(room: usize, r: Room) -> Written
+    requires { ⌜ r .left ≤ room ⌝ }
+    ensures { λ w. ⌜ ((n : ℕ) → Fits room n r → means w ≡ sized n room) ⌝ }
+{
+    if r.short {
         return Written::Refused(10);
     }
-    if n > room - len {
-        return Written::Refused(10);
-    }
-    Written::Bytes(n + len)
+    Written::Bytes(room - r.left)
 }
 
 // The answer, without a write. Every record is tested, also behind those that fill the room, since 9 comes before 10.
@@ -43,18 +59,21 @@ fn check(image: &[u8], insts: &[u64], count: usize, room: usize) -> Written
     if count > insts.len() / RECORD {
         return Written::Refused(9);
     }
-    let mut size = Written::Bytes(0);
+    let mut r = Room {
+        left: room,
+        short: false,
+    };
     let mut i = 0;
     while i < count {
         let inst = inst_at(insts, i);
-        if !is_well_formed(image, inst) {
+        let len = checked_len(image, inst);
+        if len == 0 {
             return Written::Refused(9);
         }
-        let len = encoded_len(inst);
-        size = added(size, len, room);
+        r = taken(r, len);
         i += 1;
     }
-    size
+    answer(room, r)
 }
 
 // The records' bytes from the output's front on.

@@ -61,8 +61,9 @@ form-back one = refl
 form-back name = refl
 form-back undefined = refl
 
-pub is-form : (op n k : ℕ) → n ≡ numberOf (formOf op) → n ≡ k → formOf op ≡ formAt k
-is-form op n k e h = form-back (formOf op) ∙ ap formAt (sym e ∙ h)
+-- the form with a number, and one with no number that has a case of its own
+pub form-is : (f : Form) (n k : ℕ) → n ≡ numberOf f → n ≡ k → f ≡ formAt k
+form-is f n k e h = form-back f ∙ ap formAt (sym e ∙ h)
 
 small : (f : Form) → numberOf f ≤ 4
 unfolding numberOf
@@ -72,9 +73,15 @@ small one = lit≤ tt
 small name = lit≤ tt
 small undefined = lit≤ tt
 
--- no number of a form that has a case of its own
+pub form-is-not : (f : Form) (n : ℕ) → n ≡ numberOf f → (n ≡ 1 → ⊥) → (n ≡ 2 → ⊥) → (n ≡ 3 → ⊥) → (n ≡ 4 → ⊥) → f ≡ undefined
+form-is-not f n e p q r s = form-is f n 0 e (omega (arith, small f))
+
+-- the same of a first byte's
+pub is-form : (op n k : ℕ) → n ≡ numberOf (formOf op) → n ≡ k → formOf op ≡ formAt k
+is-form op n k e h = form-is (formOf op) n k e h
+
 pub not-form : (op n : ℕ) → n ≡ numberOf (formOf op) → (n ≡ 1 → ⊥) → (n ≡ 2 → ⊥) → (n ≡ 3 → ⊥) → (n ≡ 4 → ⊥) → formOf op ≡ undefined
-not-form op n e p q r s = is-form op n 0 e (omega (arith, small (formOf op)))
+not-form op n e p q r s = form-is-not (formOf op) n e p q r s
 
 -- one element more
 pub drop-next : (s : List ℕ) (i : ℕ) → i < length s → drop i s ≡ getD s i 0 ∷ drop (i + 1) s

@@ -9,17 +9,20 @@ use lib.ListN.{getD}
 use Rattle.inst.specs.Forms.{hasNone, hasEight, hasOne, hasName, formOf, numberOf, isIn}
 
 -- the n values from f i on
-abbrev pub values : (ℕ → ℕ) → ℕ → ℕ → List ℕ
+abbrev pub values : {A : Type 0} → (ℕ → A) → ℕ → ℕ → List A
 values f i zero = []
 values f i (suc n) = f i ∷ values f (suc i) n
 
-from : (f : ℕ → ℕ) (n i k : ℕ) → k < n → getD (values f i n) k 0 ≡ f (i + k)
-from f zero i k h = absurd (not-suc-le-zero h)
-from f (suc n) i zero h = ap f (sym (add-zero i))
-from f (suc n) i (suc k) h = from f n (suc i) k (le-of-suc-le-suc h) ∙ ap f (suc-add i k ∙ sym (add-suc i k))
+module _ {A : Type 0} (d : A) where
+  from : (f : ℕ → A) (n i k : ℕ) → k < n → getD (values f i n) k d ≡ f (i + k)
+  from f zero i k h = absurd (not-suc-le-zero h)
+  from f (suc n) i zero h = ap f (sym (add-zero i))
+  from f (suc n) i (suc k) h = from f n (suc i) k (le-of-suc-le-suc h) ∙ ap f (suc-add i k ∙ sym (add-suc i k))
 
-entry : (f : ℕ → ℕ) (n k : ℕ) → k < n → getD (values f 0 n) k 0 ≡ f k
-entry f n k h = from f n 0 k h ∙ ap f (zero-add k)
+  -- functions with one table agree at each of its places
+  pub agree : (f g : ℕ → A) (n : ℕ) → values f 0 n ≡ values g 0 n → (k : ℕ) → k < n → f k ≡ g k
+  agree f g n e k h =
+      sym (from f n 0 k h ∙ ap f (zero-add k)) ∙ ap (λ (l : List A). getD l k d) e ∙ from g n 0 k h ∙ ap g (zero-add k)
 
 -- the number of each first byte's form, 16 to a line
 pub table : List ℕ
@@ -54,5 +57,4 @@ unfolding table
 coded = refl
 
 pub by-sets : (op : ℕ) → op < 256 → bySets op ≡ numberOf (formOf op)
-by-sets op h =
-    sym (entry bySets 256 op h) ∙ ap (λ l. getD l op 0) (sym coded ∙ listed) ∙ entry (λ k. numberOf (formOf k)) 256 op h
+by-sets op h = agree 0 bySets (λ k. numberOf (formOf k)) 256 (sym coded ∙ listed) op h

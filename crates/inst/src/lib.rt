@@ -7,6 +7,7 @@ pub use forms::NAME;
 pub use forms::NONE;
 pub use forms::ONE;
 pub use forms::form;
+pub use records::has_form;
 pub use records::is_well_formed;
 pub use records::name_in;
 pub use records::name_ok;

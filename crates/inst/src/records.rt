@@ -2,7 +2,8 @@
 ghost use mathlib.Core.Path.{_≡_};
 ghost use mathlib.Core.Bool.{_&&_};
 ghost use lib.Dec.{eqb};
-ghost use Rattle.inst.specs.Records.{nameOk, nameIn, wellFormed};
+ghost use Rattle.inst.specs.Forms.{Form, numberOf};
+ghost use Rattle.inst.specs.Records.{nameOk, nameIn, fits, wellFormed};
 use crate::Inst;
 use crate::forms::EIGHT;
 use crate::forms::NAME;
@@ -47,18 +48,25 @@ fn unused(a: u64, b: u64) -> bool
     if a == 0 { b == 0 } else { false }
 }
 
-// Whether a record is none that number 34 calls ill.
-pub fn is_well_formed(image: &[u8], inst: Inst) -> bool
-    ensures { λ r. ⌜ r ≡ wellFormed (now (image .entry)) inst ⌝ }
+// Whether a record's fields are as the form with this number asks.
+pub fn has_form(image: &[u8], inst: Inst, number: u8) -> bool
+    ensures { λ r. ⌜ ((f : Form) → number ≡ numberOf f → r ≡ fits (now (image .entry)) inst f) ⌝ }
 {
     let val = inst.val;
     let start = inst.start;
     let len = inst.len;
-    match form(inst.typ) {
+    match number {
         NONE => val == 0 && unused(start, len),
         EIGHT => unused(start, len),
         ONE => val <= 255 && unused(start, len),
         NAME => val == 0 && name_in(image, start, len),
         _ => false,
     }
+}
+
+// Whether a record is none that number 34 calls ill.
+pub fn is_well_formed(image: &[u8], inst: Inst) -> bool
+    ensures { λ r. ⌜ r ≡ wellFormed (now (image .entry)) inst ⌝ }
+{
+    has_form(image, inst, form(inst.typ))
 }

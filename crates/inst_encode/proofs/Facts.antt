@@ -1,15 +1,15 @@
 -- How long a record's bytes are. Assumes nothing.
-use Prim.Native.Nat.{ℕ, zero, suc, _+_, _/_, _≤_}
+use Prim.Native.Nat.{ℕ, zero, suc, _+_, _/_, _≤_, _<_}
 use mathlib.Core.Path.{_≡_, refl, ap}
-use mathlib.Core.Bool.{true, _&&_}
+use mathlib.Core.Bool.{Bool, true, cond, _&&_}
 use mathlib.Core.List.{List}
 use native.Mathlib.Omega.{arith}
-use lib.Dec.{eqb, leb}
+use lib.Dec.{eqb, leb, lit<}
 use lib.ListN.{length}
 use lib.Seq.{length-slice}
 use borrow.Author.Tests.{eqb-true, leb-true}
 use Rattle.inst.specs.declared.Inst.{Inst}
-use Rattle.inst.specs.Forms.{Form, none, eight, one, name, undefined, formOf}
+use Rattle.inst.specs.Forms.{Form, none, eight, one, name, undefined, formOf, numberOf}
 use Rattle.inst.specs.Records.{part, nameIn, fits, wellFormed}
 use Rattle.inst.proofs.Laws.{never, and-left, and-right}
 use Rattle.inst_encode.specs.Encode.{bytesOf, operandBytes, asBytes, headSize, encodedSize}
@@ -21,6 +21,19 @@ length-bytes (suc k) n = ap suc (length-bytes k (n / 256))
 
 part-length : (image : List ℕ) (start len : ℕ) → start + len ≤ length image → length (part image start len) ≡ len
 part-length image start len h = rw (length-slice start (start + len) image h) (omega arith)
+
+head-some : (f : Form) → 0 < headSize f
+unfolding headSize
+head-some none = lit< tt
+head-some eight = lit< tt
+head-some one = lit< tt
+head-some name = lit< tt
+head-some undefined = lit< tt
+
+-- no encoding is empty
+pub size-some : (i : Inst) → 0 < encodedSize i
+unfolding encodedSize
+size-some i = let h = head-some (formOf (i .typ)) in omega arith
 
 module _ (image : List ℕ) (i : Inst) where
   Sized : Form → Type 0
@@ -44,3 +57,12 @@ module _ (image : List ℕ) (i : Inst) where
   pub size-below : wellFormed image i ≡ true → encodedSize i ≤ 9 + length image
   unfolding Sized wellFormed encodedSize
   size-below w = sized (formOf (i .typ)) w .1
+
+  -- the code's answers to both
+  pub formed : (b : Bool) (n : ℕ) → n ≡ numberOf (formOf (i .typ)) → ((f : Form) → n ≡ numberOf f → b ≡ fits image i f) → b ≡ wellFormed image i
+  unfolding wellFormed
+  formed b n e h = h (formOf (i .typ)) e
+
+  pub len-is : (n : ℕ) → wellFormed image i ≡ true → n ≡ headSize (formOf (i .typ)) + i .len → n ≡ cond (wellFormed image i) (encodedSize i) 0
+  unfolding encodedSize
+  len-is n w e = rw w e

@@ -1,8 +1,8 @@
 // Encoding one well-formed record (Inst::as_bytes of mm's inst.rs), straight into the output.
 ghost use mathlib.Core.Path.{_≡_};
-ghost use mathlib.Core.Bool.{true};
+ghost use mathlib.Core.Bool.{true, cond};
 ghost use mathlib.Core.List.{_++_};
-ghost use Prim.Native.Nat.{_+_, _≤_, _<_, _^_};
+ghost use Prim.Native.Nat.{_+_, _≤_};
 ghost use lib.ListN.{length};
 ghost use lib.Seq.{sets};
 ghost use Rattle.inst.specs.Records.{part, wellFormed};
@@ -12,6 +12,7 @@ use inst::Inst;
 use inst::NAME;
 use inst::ONE;
 use inst::form;
+use inst::has_form;
 
 // The `size` lowest bytes of a number from `at` on, the lowest first.
 fn put_number(out: &mut [u8], at: usize, size: usize, number: u64)
@@ -51,14 +52,17 @@ fn put_named(out: &mut [u8], at: usize, image: &[u8], start: u64, len: u64)
     put_name(out, at + 8, &image[from..to]);
 }
 
-// How many bytes a well-formed record's encoding has: at most 9 more than its image, so the sum fits. Only the
-// encoder calls it, for records that it has found well formed.
-pub fn encoded_len(inst: Inst) -> usize
-    requires { ⌜ encodedSize inst < 2 ^ 64 ⌝ }
-    ensures { λ r. ⌜ r ≡ encodedSize inst ⌝ }
+// How many bytes a record's encoding has, at most 9 more than its image; 0 for a record that number 34 calls ill. One search
+// for the form serves both.
+pub fn checked_len(image: &[u8], inst: Inst) -> usize
+    ensures { λ r. ⌜ r ≡ cond (wellFormed (now (image .entry)) inst) (encodedSize inst) 0 ⌝ }
 {
+    let number = form(inst.typ);
+    if !has_form(image, inst, number) {
+        return 0;
+    }
     let len = inst.len as usize;
-    match form(inst.typ) {
+    match number {
         EIGHT => 9 + len,
         ONE => 2 + len,
         NAME => 9 + len,

@@ -1,23 +1,22 @@
 -- `encoder::check` meets its contract. Assumes nothing.
 use Prim.Native.Nat.{_-_}
-use mathlib.Core.Path.{sym, _∙_}
+use mathlib.Core.Path.{sym}
 use native.Mathlib.Omega.{arith}
 use borrow.Author.Needs.{needs}
-use borrow.Author.Tests.{not-true, not-false}
-use Rattle.inst_encode.proofs.Facts.{size-below}
+use Rattle.inst_encode.proofs.Facts.{size-some}
 use Rattle.tables.specs.Tables.{inst, instsOf}
 use Rattle.tables.proofs.Laws.{length-records}
 use Rattle.encoder.specs.Encoder.{means}
-use Rattle.encoder.proofs.Answers.{past}
+use Rattle.encoder.proofs.Answers.{past, ill-len, well-len}
 use Rattle.encoder.proofs.Records.{Checked, checked-none, checked-ill, checked-next, checked-all}
 use Rattle.encoder.proofs.check.Statement.{statement}
 use Rattle.encoder.proofs.check.Tie as tie
 
 abbrev Inv-loop : tie.InvT-loop
-Inv-loop image insts count room size₀ i₀ size i = Checked image (instsOf insts) count room size i
+Inv-loop image insts count room r₀ i₀ r i = Checked image (instsOf insts) count room r i
 
 abbrev μ-loop : tie.MeasureT-loop
-μ-loop image insts count room size₀ i₀ size i = count - i
+μ-loop image insts count room r₀ i₀ r i = count - i
 
 returns : tie.Need-returns Inv-loop μ-loop
 unfolding means
@@ -42,24 +41,19 @@ inst-at-requires c κs =
 returns-2 : tie.Need-returns-2 Inv-loop μ-loop
 unfolding means
 returns-2 c out e =
-    let w = sym (c .before .is-well-formed .ensures) ∙ not-true _ (c .if2 .taken) in
+    let w = ill-len _ _ _ (c .before .checked-len .ensures) (size-some (c .before .before .inst-at .result)) (c .if2 .taken) in
     sym (checked-ill _ _ _ _ _ _ (c .before .before .before .before .loop .inv) _ out (c .before .before .before .loop-test .taken) (c .before .before .inst-at .ensures) w)
-
-encoded-len-requires : tie.Need-encoded-len-requires Inv-loop μ-loop
-encoded-len-requires c κs =
-    let w = sym (c .before .is-well-formed .ensures) ∙ not-false _ (c .if2 .left) in
-    let s = c .before .before .before .before .before .before .before .before in
-    let b = size-below (s .args .image .now) (c .before .before .inst-at .result) w in
-    let g = s .good .0 in
-    omega arith
 
 loop-again : tie.Need-loop-again Inv-loop μ-loop
 loop-again c =
-    let w = sym (c .before .before .before .is-well-formed .ensures) ∙ not-false _ (c .before .before .if2 .left) in
-    checked-next _ _ _ _ _ _ (c .before .before .before .before .before .before .loop .inv) _ _ _ (c .before .before .before .before .before .loop-test .taken) (c .before .before .before .before .inst-at .ensures) w (c .before .encoded-len .ensures) (c .added .ensures)
+    let w = well-len _ _ _ (c .before .before .checked-len .ensures) (c .before .if2 .left) in
+    checked-next _ _ _ _ _ _ (c .before .before .before .before .before .loop .inv) _ _ _ (c .before .before .before .before .loop-test .taken) (c .before .before .before .inst-at .ensures) (w .0) (w .1) (c .taken .ensures)
+
+answer-requires : tie.Need-answer-requires Inv-loop μ-loop
+answer-requires c κs = c .before .loop .inv .fits .inside
 
 returns-3 : tie.Need-returns-3 Inv-loop μ-loop
-returns-3 c out e = checked-all _ _ _ _ _ _ (c .before .loop .inv) out e (c .loop-test .left)
+returns-3 c out e = checked-all _ _ _ _ _ _ (c .before .before .loop .inv) _ out e (c .before .loop-test .left) (c .answer .ensures)
 
 pub check-spec : {M : Type 1} → statement M
 check-spec =
@@ -72,9 +66,9 @@ check-spec =
     inst-at-requires
     (λ c κs. search needs)
     returns-2
-    encoded-len-requires
     (λ c κs. search needs)
     (λ c. search needs)
     (λ c. search needs)
     loop-again
+    answer-requires
     returns-3)
