@@ -6,11 +6,11 @@ use mathlib.Core.List.{List, [], _∷_, _++_}
 use native.Mathlib.Nat.{add-zero, add-suc, suc-add}
 use native.Mathlib.Numerals.{add-one}
 use native.Mathlib.Omega.{arith}
-use lib.Dec.{T, eqb, ltb, leb, lit<, lit≤}
+use lib.Dec.{T, eqb, ltb, leb, lit<}
 use lib.ListN.{length, getD, set, take, drop, drop-of-length-le}
 use lib.Seq.{drop-cons, take-nil, sets, slice}
 use borrow.Author.Tests.{ne-eqb, lt-leb}
-use Rattle.inst.specs.Forms.{Form, none, eight, one, name, undefined, hasNone, hasEight, hasOne, hasName, formOf, numberOf}
+use Rattle.inst.specs.Forms.{Form, none, eight, one, name, undefined, hasNone, hasEight, hasOne, hasName, formOf, numberOf, formAt}
 use Rattle.inst.specs.Records.{nameOk}
 
 -- by a test, and what no test can be
@@ -49,10 +49,6 @@ module _ (op : ℕ) (h : 63 < op) (n : op ≡ 69 → ⊥) where
   unfolding formOf hasNone hasEight hasOne hasName
   no-form = let t : T true = tt in simp (other, above, ne-eqb op 69 n, and-false)
 
--- the form of a number, the table's numbers backwards
-abbrev pub formAt : ℕ → Form
-formAt n = cond (eqb n 1) none (cond (eqb n 2) eight (cond (eqb n 3) one (cond (eqb n 4) name undefined)))
-
 pub form-back : (f : Form) → f ≡ formAt (numberOf f)
 unfolding numberOf
 form-back none = refl
@@ -61,27 +57,16 @@ form-back one = refl
 form-back name = refl
 form-back undefined = refl
 
--- the form with a number, and one with no number that has a case of its own
-pub form-is : (f : Form) (n k : ℕ) → n ≡ numberOf f → n ≡ k → f ≡ formAt k
-form-is f n k e h = form-back f ∙ ap formAt (sym e ∙ h)
+-- any other number stands for the undefined form
+pub other-form : (n : ℕ) → (n ≡ 1 → ⊥) → (n ≡ 2 → ⊥) → (n ≡ 3 → ⊥) → (n ≡ 4 → ⊥) → formAt n ≡ undefined
+other-form n p q r s = simp (ne-eqb n 1 p, ne-eqb n 2 q, ne-eqb n 3 r, ne-eqb n 4 s)
 
-small : (f : Form) → numberOf f ≤ 4
-unfolding numberOf
-small none = lit≤ tt
-small eight = lit≤ tt
-small one = lit≤ tt
-small name = lit≤ tt
-small undefined = lit≤ tt
-
-pub form-is-not : (f : Form) (n : ℕ) → n ≡ numberOf f → (n ≡ 1 → ⊥) → (n ≡ 2 → ⊥) → (n ≡ 3 → ⊥) → (n ≡ 4 → ⊥) → f ≡ undefined
-form-is-not f n e p q r s = form-is f n 0 e (omega (arith, small f))
-
--- the same of a first byte's
+-- the form of a first byte, by its number
 pub is-form : (op n k : ℕ) → n ≡ numberOf (formOf op) → n ≡ k → formOf op ≡ formAt k
-is-form op n k e h = form-is (formOf op) n k e h
+is-form op n k e h = form-back (formOf op) ∙ ap formAt (sym e ∙ h)
 
 pub not-form : (op n : ℕ) → n ≡ numberOf (formOf op) → (n ≡ 1 → ⊥) → (n ≡ 2 → ⊥) → (n ≡ 3 → ⊥) → (n ≡ 4 → ⊥) → formOf op ≡ undefined
-not-form op n e p q r s = form-is-not (formOf op) n e p q r s
+not-form op n e p q r s = form-back (formOf op) ∙ ap formAt (sym e) ∙ other-form n p q r s
 
 -- one element more
 pub drop-next : (s : List ℕ) (i : ℕ) → i < length s → drop i s ≡ getD s i 0 ∷ drop (i + 1) s

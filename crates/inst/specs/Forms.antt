@@ -30,13 +30,17 @@ hasName op = within 12 21 op || eqb op 28 || eqb op 30 || eqb op 37
 unfoldable pub formOf : ℕ → Form
 formOf op = cond (hasNone op) none (cond (hasEight op) eight (cond (hasOne op) one (cond (hasName op) name undefined)))
 
--- the number of each form in the code's table
+-- the number of each form in the code
 unfoldable pub numberOf : Form → ℕ
 numberOf undefined = 0
 numberOf none = 1
 numberOf eight = 2
 numberOf one = 3
 numberOf name = 4
+
+-- and the form that a number stands for
+abbrev pub formAt : ℕ → Form
+formAt n = cond (eqb n 1) none (cond (eqb n 2) eight (cond (eqb n 3) one (cond (eqb n 4) name undefined)))
 
 -- whether bit k of a set's number is set
 abbrev pub isIn : ℕ → ℕ → Bool

@@ -1,4 +1,4 @@
-// One instruction (mm's inst.rs): its record, the table of operand forms, the check of a name and the well-formed record.
+// One instruction (mm's inst.rs): its record, the operand's form of a first byte, the check of a name and the well-formed record.
 mod forms;
 mod records;
 

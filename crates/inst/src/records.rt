@@ -2,7 +2,7 @@
 ghost use mathlib.Core.Path.{_≡_};
 ghost use mathlib.Core.Bool.{_&&_};
 ghost use lib.Dec.{eqb};
-ghost use Rattle.inst.specs.Forms.{Form, numberOf};
+ghost use Rattle.inst.specs.Forms.{formAt};
 ghost use Rattle.inst.specs.Records.{nameOk, nameIn, fits, wellFormed};
 use crate::Inst;
 use crate::forms::EIGHT;
@@ -50,7 +50,7 @@ fn unused(a: u64, b: u64) -> bool
 
 // Whether a record's fields are as the form with this number asks.
 pub fn has_form(image: &[u8], inst: Inst, number: u8) -> bool
-    ensures { λ r. ⌜ ((f : Form) → number ≡ numberOf f → r ≡ fits (now (image .entry)) inst f) ⌝ }
+    ensures { λ r. ⌜ r ≡ fits (now (image .entry)) inst (formAt number) ⌝ }
 {
     let val = inst.val;
     let start = inst.start;

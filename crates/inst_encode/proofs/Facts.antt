@@ -1,6 +1,6 @@
 -- How long a record's bytes are. Assumes nothing.
 use Prim.Native.Nat.{ℕ, zero, suc, _+_, _/_, _≤_, _<_}
-use mathlib.Core.Path.{_≡_, refl, ap}
+use mathlib.Core.Path.{_≡_, refl, _∙_, ap, sym}
 use mathlib.Core.Bool.{Bool, true, cond, _&&_}
 use mathlib.Core.List.{List}
 use native.Mathlib.Omega.{arith}
@@ -9,9 +9,9 @@ use lib.ListN.{length}
 use lib.Seq.{length-slice}
 use borrow.Author.Tests.{eqb-true, leb-true}
 use Rattle.inst.specs.declared.Inst.{Inst}
-use Rattle.inst.specs.Forms.{Form, none, eight, one, name, undefined, formOf, numberOf}
+use Rattle.inst.specs.Forms.{Form, none, eight, one, name, undefined, formOf, numberOf, formAt}
 use Rattle.inst.specs.Records.{part, nameIn, fits, wellFormed}
-use Rattle.inst.proofs.Laws.{never, and-left, and-right}
+use Rattle.inst.proofs.Laws.{never, and-left, and-right, form-back}
 use Rattle.inst_encode.specs.Encode.{bytesOf, operandBytes, asBytes, headSize, encodedSize}
 
 pub length-bytes : (k n : ℕ) → length (bytesOf k n) ≡ k
@@ -59,9 +59,9 @@ module _ (image : List ℕ) (i : Inst) where
   size-below w = sized (formOf (i .typ)) w .1
 
   -- the code's answers to both
-  pub formed : (b : Bool) (n : ℕ) → n ≡ numberOf (formOf (i .typ)) → ((f : Form) → n ≡ numberOf f → b ≡ fits image i f) → b ≡ wellFormed image i
+  pub formed : (b : Bool) (n : ℕ) → n ≡ numberOf (formOf (i .typ)) → b ≡ fits image i (formAt n) → b ≡ wellFormed image i
   unfolding wellFormed
-  formed b n e h = h (formOf (i .typ)) e
+  formed b n e h = h ∙ ap (fits image i) (ap formAt e ∙ sym (form-back (formOf (i .typ))))
 
   pub len-is : (n : ℕ) → wellFormed image i ≡ true → n ≡ headSize (formOf (i .typ)) + i .len → n ≡ cond (wellFormed image i) (encodedSize i) 0
   unfolding encodedSize
