@@ -21,12 +21,12 @@ use lent_machine::write_numbers;
 use loader::Loading;
 use loader::fresh;
 use loader::from_binary;
+use machine::CALL_LIMIT;
+use machine::MEMORY_SIZE;
+use machine::STACK_LIMIT;
 use run::ending;
 use run::execute_parts;
 use run::progress::Progress;
-use step_core::CALL_LIMIT;
-use step_core::MEMORY_SIZE;
-use step_core::STACK_LIMIT;
 
 // No machine is lent; a number of our own.
 const NO_MACHINE: u64 = 50;

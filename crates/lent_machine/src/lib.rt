@@ -9,11 +9,11 @@ ghost use lib.ListN.{length, getD};
 ghost use Rattle.machine.specs.Limits.{stackLimit, callLimit, memorySize};
 ghost use Rattle.step_core.specs.Parts.{callHeight};
 ghost use Rattle.lent_machine.specs.Layout.{slices, hasSizes, isMachine, coreOf, lentOf};
+use machine::CALL_LIMIT;
+use machine::MEMORY_SIZE;
 use machine::Machine;
-use step_core::CALL_LIMIT;
+use machine::STACK_LIMIT;
 use step_core::Core;
-use step_core::MEMORY_SIZE;
-use step_core::STACK_LIMIT;
 
 // How many numbers a machine has beside its arrays, and where each lies.
 const NUMBERS: usize = 5;

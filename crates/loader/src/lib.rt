@@ -13,7 +13,10 @@ pub use filling::begin;
 pub use filling::fill;
 use filling::link;
 use inst::Inst;
+use machine::CALL_LIMIT;
+use machine::MEMORY_SIZE;
 use machine::Machine;
+use machine::STACK_LIMIT;
 pub use reading::same_name;
 use tables::RECORD;
 
@@ -75,11 +78,11 @@ pub fn fresh(ip: usize) -> Machine
     ensures { λ r. ⌜ r ≡ freshAt ip ⌝ }
 {
     Machine {
-        stack: [0; 1024],
+        stack: [0; STACK_LIMIT],
         height: 0,
-        calls: [0; 1024],
+        calls: [0; CALL_LIMIT],
         call_height: 0,
-        memory: [0; 1024],
+        memory: [0; MEMORY_SIZE],
         flags: 0,
         ip: ip,
         halted: false,

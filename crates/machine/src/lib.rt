@@ -1,15 +1,22 @@
 // The machine's types. Document 01's definitions over them stand in specs/, the theorems in proofs/.
 ghost use Rattle.machine.specs.Theorems.{Theorems};
 
+// The most cells and return addresses, and the bytes of the memory.
+pub const STACK_LIMIT: usize = 1024;
+
+pub const CALL_LIMIT: usize = 1024;
+
+pub const MEMORY_SIZE: usize = 1024;
+
 // One machine. The data stack is the first `height` cells of `stack`, the call stack the first `call_height`
 // addresses of `calls`.
 #[repr(C)]
 pub struct Machine {
-    pub stack: [u64; 1024],
+    pub stack: [u64; STACK_LIMIT],
     pub height: usize,
-    pub calls: [u64; 1024],
+    pub calls: [u64; CALL_LIMIT],
     pub call_height: usize,
-    pub memory: [u8; 1024],
+    pub memory: [u8; MEMORY_SIZE],
     pub flags: u8,
     pub ip: usize,
     pub halted: bool,

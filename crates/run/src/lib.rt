@@ -19,16 +19,16 @@ use crate::progress::asks;
 use crate::progress::ends;
 use crate::progress::follow;
 use lookup::lookup;
+use machine::CALL_LIMIT;
 use machine::Ending;
+use machine::MEMORY_SIZE;
 use machine::Machine;
+use machine::STACK_LIMIT;
 use quick::KNOWN_LIMIT;
 use quick::UNKNOWN;
 use quick::run_known;
 use step::step;
-use step_core::CALL_LIMIT;
 use step_core::Core;
-use step_core::MEMORY_SIZE;
-use step_core::STACK_LIMIT;
 
 // What a run returns.
 pub struct Ran {

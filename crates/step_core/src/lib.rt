@@ -4,13 +4,6 @@ ghost use mathlib.Core.Path.{_≡_};
 ghost use Prim.Native.Nat.{_+_, _<_, _^_};
 ghost use Rattle.step_core.specs.declared.Executed.the-variants.{Next, Trap};
 
-// The most cells and return addresses, and the bytes of the memory.
-pub const STACK_LIMIT: usize = 1024;
-
-pub const CALL_LIMIT: usize = 1024;
-
-pub const MEMORY_SIZE: usize = 1024;
-
 // The numbers that nearly every step changes. All fields have eight bytes: a u8 among them would leave seven bytes of
 // padding, which the compiler then copies through memory at each step (2.2 instead of 1.6 ns a step). So the flags
 // are a number beside the core.

@@ -6,9 +6,9 @@ ghost use Rattle.binary64.specs.Binary64.{isNaN};
 ghost use Rattle.machine.specs.Step as definition;
 ghost use Rattle.step_core.specs.Parts.{Tested, OnStack};
 ghost use Rattle.step_float.specs.FirstBytes.{floatOf};
+use machine::STACK_LIMIT;
 use step_core::Core;
 use step_core::Executed;
-use step_core::STACK_LIMIT;
 use step_core::onward;
 use step_core::trap;
 

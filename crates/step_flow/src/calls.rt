@@ -2,7 +2,7 @@
 ghost use Prim.Native.Nat.{_<_};
 ghost use Rattle.machine.specs.Step as definition;
 ghost use Rattle.step_core.specs.Parts.{Tested, OnCalls, OnCalling, foundOf};
-use step_core::CALL_LIMIT;
+use machine::CALL_LIMIT;
 use step_core::Core;
 use step_core::Executed;
 use step_core::moved;

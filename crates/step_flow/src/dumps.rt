@@ -4,9 +4,9 @@ ghost use mathlib.Core.Bool.{_||_};
 ghost use lib.Dec.{eqb};
 ghost use Rattle.machine.specs.Step as definition;
 ghost use Rattle.step_core.specs.Parts.{Tested, OnStack};
+use machine::STACK_LIMIT;
 use step_core::Core;
 use step_core::Executed;
-use step_core::STACK_LIMIT;
 use step_core::trap;
 
 fn is_stream(stream: u64) -> bool

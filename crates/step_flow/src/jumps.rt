@@ -3,9 +3,9 @@ ghost use Prim.Native.Nat.{_≤_, _<_};
 ghost use Rattle.machine.specs.Step as definition;
 ghost use Rattle.flag.specs.Flags.{isSet};
 ghost use Rattle.step_core.specs.Parts.{Tested, OnCore, OnStack, foundOf};
+use machine::STACK_LIMIT;
 use step_core::Core;
 use step_core::Executed;
-use step_core::STACK_LIMIT;
 use step_core::moved;
 use step_core::trap;
 

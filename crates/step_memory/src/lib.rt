@@ -6,10 +6,10 @@ ghost use lib.ListN.{getD};
 ghost use Rattle.machine.specs.Limits.{memorySize};
 ghost use Rattle.machine.specs.Step as definition;
 ghost use Rattle.step_core.specs.Parts.{Tested, OnBoth};
+use machine::MEMORY_SIZE;
+use machine::STACK_LIMIT;
 use step_core::Core;
 use step_core::Executed;
-use step_core::MEMORY_SIZE;
-use step_core::STACK_LIMIT;
 use step_core::onward;
 use step_core::trap;
 

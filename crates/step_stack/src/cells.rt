@@ -3,9 +3,9 @@
 ghost use Rattle.machine.specs.Step as definition;
 ghost use Rattle.integer.specs.Integers as integers;
 ghost use Rattle.step_core.specs.Parts.{Tested, OnCore, OnStack};
+use machine::STACK_LIMIT;
 use step_core::Core;
 use step_core::Executed;
-use step_core::STACK_LIMIT;
 use step_core::onward;
 use step_core::trap;
 
