@@ -45,6 +45,7 @@ target/libmm_host.rlib: $(ARCHIVES) $(wildcard host-rust/src/*.rs)
 
 # The original, its source unchanged: only its root file has the probe behind it, since the state is private there.
 target/original/libmm.rlib:
+	@[ -e $(MM_SOURCE)/mm.rs ] || { echo "no mm.rs in MM_SOURCE=$(MM_SOURCE)"; exit 1; }
 	mkdir -p target/original
 	cp $(MM_SOURCE)/*.rs target/original/
 	cat $(MM_SOURCE)/mm.rs oracle/probe.rs > target/original/mm.rs
@@ -83,11 +84,12 @@ record: target/original/libmm.rlib
 
 host-rust: $(ARCHIVES)
 	cd host-rust && CARGO_TARGET_DIR=../target/host-rust cargo test --offline --quiet
+	cd host-rust && CARGO_TARGET_DIR=../target/host-rust cargo run --offline --quiet --example round ../crates/runimage/stdin | grep -x 'halted after 6 steps'
 	cd host-rust && CARGO_TARGET_DIR=../target/host-rust cargo doc --offline --quiet
 
-# Four builds, each with more bytes before its code: the place of a loop in memory moves its speed.
+# Eight builds, each with more bytes before its code: the place of a loop in memory moves its speed.
 # The report goes to standard error: the original prints to standard output.
-PADS := 0 16 32 48
+PADS := 0 16 32 48 64 80 96 112
 
 bench: target/libmm_host.rlib target/original/libmm.rlib
 	cc -O3 -Wall -Wextra -Werror -c -o target/interpreter.o bench/interpreter.c

@@ -57,73 +57,57 @@ const JNE: u8 = 17;
 const JL: u8 = 13;
 const CALL: u8 = 28;
 
+fn jump() -> Program {
+    Program::started().label("a").name(JMP, "b").label("c").name(JMP, "a").label("b").name(JMP, "c")
+}
+
+fn calls() -> Program {
+    Program::started().label("l").name(CALL, "f").name(JMP, "l").label("f").op(29)
+}
+
+fn integer() -> Program {
+    Program::started().int(1).label("l").int(3).op(5).int(2).op(7).int(7).op(6).int(2).op(8).op(3).op(4).name(JMP, "l")
+}
+
+fn float() -> Program {
+    let begun = Program::started().float(1.5).label("l");
+    begun.float(0.25).op(23).float(1.5).op(25).float(0.25).op(24).float(1.5).op(26).name(JMP, "l")
+}
+
+fn memory() -> Program {
+    Program::started().label("l").int(9).int(77).op(39).int(9).op(38).op(2).name(JMP, "l")
+}
+
+fn conversions() -> Program {
+    Program::started().float(3.75).label("l").op(31).op(33).op(32).op(36).name(JMP, "l")
+}
+
+// A state modulo 2^48 that is multiplied and added to, and a jump on a comparison of it with a half.
+fn branches() -> Program {
+    let stated = Program::started().int(1).label("l").int(0x5DEECE66D).op(7).int(11).op(5);
+    stated.dup(0).int(0x800000000000).op(9).op(2).name(JL, "less").op(0).label("less").name(JMP, "l")
+}
+
+fn mixed() -> Program {
+    let counted = Program::started().int(0).label("l").op(3).dup(0).int(1000).op(9).op(2).name(JNE, "l");
+    counted.op(2).int(0).name(CALL, "f").name(JMP, "l").label("f").float(0.5).op(2).op(29)
+}
+
 // Each goes round for ever.
 pub fn images() -> Vec<(&'static str, Program)> {
-    let jump = || Program::started().label("a").name(JMP, "b").label("c").name(JMP, "a").label("b").name(JMP, "c");
-    let calls = || Program::started().label("l").name(CALL, "f").name(JMP, "l").label("f").op(29);
     vec![
         ("jump", jump()),
         ("jump, 50 labels", jump().labels(50)),
         ("jump, 500 labels", jump().labels(500)),
-        ("integer", Program::started().int(1).label("l").int(3).op(5).int(2).op(7).int(7).op(6).int(2).op(8).op(3).op(4).name(JMP, "l")),
-        (
-            "float",
-            Program::started()
-                .float(1.5)
-                .label("l")
-                .float(0.25)
-                .op(23)
-                .float(1.5)
-                .op(25)
-                .float(0.25)
-                .op(24)
-                .float(1.5)
-                .op(26)
-                .name(JMP, "l"),
-        ),
+        ("integer", integer()),
+        ("float", float()),
         ("calls", calls()),
+        ("calls, 50 labels", calls().labels(50)),
         ("calls, 500 labels", calls().labels(500)),
-        ("memory", Program::started().label("l").int(9).int(77).op(39).int(9).op(38).op(2).name(JMP, "l")),
-        ("conversions", Program::started().float(3.75).label("l").op(31).op(33).op(32).op(36).name(JMP, "l")),
-        // a state modulo 2^48 that is multiplied and added to, and a jump on a comparison of it with a half
-        (
-            "branches",
-            Program::started()
-                .int(1)
-                .label("l")
-                .int(0x5DEECE66D)
-                .op(7)
-                .int(11)
-                .op(5)
-                .dup(0)
-                .int(0x800000000000)
-                .op(9)
-                .op(2)
-                .name(JL, "less")
-                .op(0)
-                .label("less")
-                .name(JMP, "l"),
-        ),
-        (
-            "mixed",
-            Program::started()
-                .int(0)
-                .label("l")
-                .op(3)
-                .dup(0)
-                .int(1000)
-                .op(9)
-                .op(2)
-                .name(JNE, "l")
-                .op(2)
-                .int(0)
-                .name(CALL, "f")
-                .name(JMP, "l")
-                .label("f")
-                .float(0.5)
-                .op(2)
-                .op(29),
-        ),
+        ("memory", memory()),
+        ("conversions", conversions()),
+        ("branches", branches()),
+        ("mixed", mixed()),
     ]
 }
 

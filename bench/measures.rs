@@ -52,7 +52,8 @@ fn straight_code(rounds: usize) {
 /// ns an instruction and bytes: the original, ours.
 fn load_and_encode(rounds: usize) {
     let nops = (0..4_000).fold(Program::started(), |p, _| p.op(0));
-    for (name, Program(image)) in [("straight code", straight(1_500)), ("400 labels", Program::started().labels(400)), ("4,000 NOPs", nops)] {
+    for (name, Program(image)) in [("straight code", straight(1_500)), ("400 labels", Program::started().labels(400)), ("4,000 NOPs", nops)]
+    {
         let (mut tables, l) = engines::loaded(&image);
         let [rust, ours] = least(100 * rounds, || engines::loads(&image, &mut tables));
         tell(&format!("load, {name}"), &[rust, ours, image.len() as f64, l.count as f64]);

@@ -57,7 +57,9 @@ fn short_runs(rows: &[&Row]) {
 }
 
 fn load_and_encode(rows: &[&Row]) {
-    eprintln!("\n| | bytes | instructions | Rust MB/s | ours MB/s | times faster | ours, ns an instruction |\n|---|---|---|---|---|---|---|");
+    eprintln!(
+        "\n| | bytes | instructions | Rust MB/s | ours MB/s | times faster | ours, ns an instruction |\n|---|---|---|---|---|---|---|"
+    );
     for row in rows {
         let (rust, ours, bytes, count) = (mean(row, 0), mean(row, 1), mean(row, 2), mean(row, 3));
         let rate = |ns: f64| 1e3 * bytes / ns;
@@ -86,6 +88,7 @@ pub fn means(millions: &str, rounds: &str, file: &str, programs: &[&str]) {
     eprintln!("\nstraight code that runs once, ns an instruction: load and run Rust {rust:.1}, ours {ours:.1}, {:.1} times faster; our run alone {alone:.1}", rust / ours);
     load_and_encode(&rows.iter().filter(|row| row.0.contains(", ") && !row.0.contains(": ")).collect::<Vec<_>>());
     records(&named("records: "));
-    let bars: Vec<(String, [f64; 3])> = named("run: ").iter().map(|row| (row.0[5..].to_string(), [mean(row, 0), mean(row, 1), mean(row, 2)])).collect();
+    let bars: Vec<(String, [f64; 3])> =
+        named("run: ").iter().map(|row| (row.0[5..].to_string(), [mean(row, 0), mean(row, 1), mean(row, 2)])).collect();
     std::fs::write(file, picture::svg(&bars)).expect("the picture is written");
 }

@@ -1,4 +1,4 @@
-// Runs a program on the images of images.txt, each on its standard input, and compares what it prints.
+// Runs a program on the images of images.txt, each on its standard input, and compares what it prints; and on an input that can't be read.
 // Usage: oracle-images PROGRAM IMAGES
 mod notation;
 
@@ -45,6 +45,13 @@ fn run(program: &str, image: &[u8]) -> std::io::Result<(String, bool)> {
     Ok((String::from_utf8_lossy(&out.stdout).into_owned(), out.status.success()))
 }
 
+// An input that can't be read, as a folder: a message, status 1 and no output.
+fn tells_unreadable(program: &str) -> bool {
+    let folder = std::fs::File::open(".").expect("this folder");
+    let out = Command::new(program).stdin(folder).output().expect("the program runs");
+    out.stdout.is_empty() && !out.stderr.is_empty() && out.status.code() == Some(1)
+}
+
 fn main() {
     let arguments: Vec<String> = std::env::args().collect();
     let [_, program, images] = arguments.as_slice() else {
@@ -62,6 +69,10 @@ fn main() {
             wrong += 1;
             println!("{}: wanted\n{want}and got (success: {success})\n{got}", image.name);
         }
+    }
+    if !tells_unreadable(program) {
+        wrong += 1;
+        println!("an input that can't be read: not status 1 with a message and no output");
     }
     println!("images: {} run, {wrong} wrong", all.len());
     if wrong > 0 || all.len() < 20 {

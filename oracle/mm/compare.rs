@@ -1,9 +1,9 @@
 // One image in both machines: after the load the program, its re-encoding and the pointer; after every step the whole state.
-use crate::images::Random;
+use crate::images::{self, Random};
 use crate::report::Report;
 use crate::trap::number;
 use mm::{Mm, Natives, Program};
-use mm_host::{Ending, Loaded, Machine, Number, Tables};
+use mm_host::{Ending, Loaded, Machine, Number, Ran, Tables};
 use std::fmt;
 use std::panic::{catch_unwind, AssertUnwindSafe};
 
@@ -26,6 +26,9 @@ impl fmt::Display for Verdict {
 
 // The steps that an image is followed for.
 const STEPS: u64 = 400;
+
+// The runs that so many steps in pieces may take: random limits and buffers of no slot make some idle.
+const RUNS: u64 = 100 * STEPS;
 
 const FLOATS: std::ops::RangeInclusive<u64> = 23..=26;
 
@@ -61,13 +64,56 @@ enum Step {
     Stop,
 }
 
+// What a step of the Rust came to: its trap, if any, and the cell that it dumped.
+struct Taken {
+    op: u64,
+    trap: Option<u64>,
+    dumped: Option<u64>,
+}
+
+impl Taken {
+    fn ending(&self) -> Ending {
+        match (self.trap, self.op) {
+            (Some(t), _) => Ending::Number(Number(t)),
+            (None, 69) => Ending::Halted,
+            (None, _) => Ending::Limit,
+        }
+    }
+
+    // Where a run of limit 1 with room for one cell says otherwise.
+    fn difference(&self, ran: &Ran, cell: u64) -> Option<String> {
+        let (op, ending, dumped) = (self.op, self.ending(), usize::from(self.dumped.is_some()));
+        if ran.ending != ending || ran.steps != 1 || ran.dumped != dumped {
+            Some(format!("first byte {op}: Rust {ending:?} and {dumped} cells, ours {ran:?}"))
+        } else if self.dumped.is_some_and(|top| top != cell) {
+            Some(format!("dumped cell: Rust {:X?}, ours {cell:X}", self.dumped))
+        } else {
+            None
+        }
+    }
+}
+
 impl<'a> Both<'a> {
-    // One step of both, the ordinary way: they agree, or the comparison ends.
-    fn step(&self, rust: &mut Mm<'a>, ours: &mut Machine, report: &mut Report) -> Result<Step, Verdict> {
-        let op = self.tables.insts[4 * ours.ip as usize];
+    // One step of the Rust, or why it lies outside document 01's domain.
+    fn take(&self, rust: &mut Mm<'a>, op: u64) -> Result<Taken, Verdict> {
         let top = rust.stack().back().map(|c| c.0.to_bits());
         let full = rust.stack().len() >= 1024 && [1, 11, 22].contains(&op);
         let deep = rust.probe_calls().len() >= 1024 && op == 28;
+        let went = catch_unwind(AssertUnwindSafe(|| rust.probe_step(self.program)));
+        let trap = went.map_err(|_| Verdict::Outside("the Rust panics"))?.err().map(|t| number(&t));
+        if full && trap.is_none() || deep {
+            return Err(Verdict::Outside("a stack over 1,024"));
+        }
+        if FLOATS.contains(&op) && trap.is_none() && rust.stack().back().is_some_and(|c| c.0.is_nan()) {
+            return Err(Verdict::Outside("a float result that is a NaN"));
+        }
+        let dumped = if trap.is_none() && op == 46 { top } else { None };
+        Ok(Taken { op, trap, dumped })
+    }
+
+    // One step of both: they agree, or the comparison ends.
+    fn step(&self, rust: &mut Mm<'a>, ours: &mut Machine, report: &mut Report) -> Result<Step, Verdict> {
+        let op = self.tables.insts[4 * ours.ip as usize];
         let mut dumps = [0];
         let halted = ours.halted;
         let ran = mm_host::run(self.image, &self.tables, self.count, ours, 1, &mut dumps);
@@ -75,38 +121,14 @@ impl<'a> Both<'a> {
             let ended = ran.ending == Ending::Halted && ran.steps == 0;
             return if ended { Ok(Step::Stop) } else { Err(Verdict::Differs(format!("a halted machine: {ran:?}"))) };
         }
-        let went = catch_unwind(AssertUnwindSafe(|| rust.probe_step(self.program)));
-        let trap = match went {
-            Err(_) => return Err(Verdict::Outside("the Rust panics")),
-            Ok(Err(trap)) => Some(number(&trap)),
-            Ok(Ok(())) => None,
-        };
-        if full && trap.is_none() || deep {
-            return Err(Verdict::Outside("a stack over 1,024"));
-        }
-        if FLOATS.contains(&op) && trap.is_none() && rust.stack().back().is_some_and(|c| c.0.is_nan()) {
-            return Err(Verdict::Outside("a float result that is a NaN"));
-        }
-        report.steps += 1;
-        *report.instructions.entry(op as u8).or_default() += 1;
-        if let Some(t) = trap {
-            *report.traps.entry(t).or_default() += 1;
-        }
-        let ending = match (trap, op) {
-            (Some(t), _) => Ending::Number(Number(t)),
-            (None, 69) => Ending::Halted,
-            (None, _) => Ending::Limit,
-        };
-        let dumped = usize::from(trap.is_none() && op == 46);
-        if ran.ending != ending || ran.steps != 1 || ran.dumped != dumped {
-            return Err(Verdict::Differs(format!("first byte {op}: Rust {ending:?} and {dumped} cells, ours {ran:?}")));
-        }
-        if dumped == 1 && Some(dumps[0]) != top {
-            return Err(Verdict::Differs(format!("dumped cell: Rust {top:X?}, ours {:X}", dumps[0])));
+        let taken = self.take(rust, op)?;
+        report.step(op as u8, taken.trap);
+        if let Some(what) = taken.difference(&ran, dumps[0]) {
+            return Err(Verdict::Differs(what));
         }
         match first_difference(rust, ours) {
             Some(what) => Err(Verdict::Differs(format!("after first byte {op}: {what}"))),
-            None if trap.is_some() => Ok(Step::Stop),
+            None if taken.trap.is_some() => Ok(Step::Stop),
             None => Ok(Step::On),
         }
     }
@@ -132,8 +154,12 @@ impl<'a> Both<'a> {
         let one = mm_host::run(self.image, &self.tables, self.count, &mut whole, STEPS, &mut all);
         all.truncate(one.dumped);
         let mut ours = fresh.clone();
-        let (mut left, mut cells) = (one.steps, Vec::new());
+        let (mut left, mut cells, mut runs) = (one.steps, Vec::new(), 0);
         while left > 0 {
+            runs += 1;
+            if runs > RUNS {
+                return Verdict::Differs(format!("in pieces: {RUNS} runs and still {left} steps to go"));
+            }
             let limit = random.below(left + 1);
             let mut dumps = vec![0; random.below(4) as usize];
             let ran = mm_host::run(self.image, &self.tables, self.count, &mut ours, limit, &mut dumps);
@@ -151,58 +177,75 @@ impl<'a> Both<'a> {
     }
 }
 
-// The Rust has no such rule, or panics.
-fn beyond(number: u64) -> Option<&'static str> {
+// What the Rust has no rule for, or panics at, by our number. That the image has it is read off its bytes here.
+fn beyond(number: u64, image: &[u8]) -> Option<(&'static str, bool)> {
+    let firsts = images::firsts(image);
+    let many = |op: u8| firsts.iter().filter(|first| **first == op).count();
+    let closed = firsts.len() + usize::from(firsts.last() != Some(&69));
     match number {
-        1 => Some("1, an image over 16,384 bytes"),
-        4 => Some("4, a name byte of 128 or more"),
-        5 => Some("5, over 4,096 instructions"),
-        6 => Some("6, over 512 definitions"),
-        8 => Some("8, a NATIVE"),
+        1 => Some(("1, an image over 16,384 bytes", image.len() > 16_384)),
+        4 => Some(("4, a name byte of 128 or more", images::has_high_name(image))),
+        5 => Some(("5, over 4,096 instructions", closed > 4_096)),
+        6 => Some(("6, over 512 definitions", many(21) > 512)),
+        8 => Some(("8, a NATIVE", many(37) > 0)),
         _ => None,
     }
 }
 
-fn judged(image: &Vec<u8>, random: &mut Random, report: &mut Report) -> Verdict {
-    let mut tables = Tables::new();
-    let loaded = mm_host::load(image, &mut tables);
+// The load in both: the same number, or programs to be compared.
+fn load<'a>(image: &'a Vec<u8>, tables: &mut Tables, report: &mut Report) -> Result<(Loaded, Mm<'a>, Program), Verdict> {
+    let loaded = mm_host::load(image, tables);
     if let Err(Number(n)) = loaded {
-        if let Some(why) = beyond(n) {
-            return Verdict::Outside(why);
+        match beyond(n, image) {
+            Some((why, true)) => return Err(Verdict::Outside(why)),
+            Some((why, false)) => return Err(Verdict::Differs(format!("ours refuses with {why}, which the image hasn't"))),
+            None => {}
         }
     }
     let original = catch_unwind(|| Mm::from_binary("image", image, Natives::new(), Vec::new()));
-    let (rust, program) = match (original, &loaded) {
-        (Err(_), Err(Number(3))) => return Verdict::Outside("3, a negative length: the Rust panics"),
-        (Err(_), _) => return Verdict::Differs("the Rust panics at the load".to_string()),
-        (Ok(Err(trap)), Err(Number(n))) if number(&trap) == *n => {
-            *report.refusals.entry(*n).or_default() += 1;
-            return Verdict::Agrees;
+    match (original, loaded) {
+        (Err(_), Err(Number(3))) => Err(Verdict::Outside("3, a negative length: the Rust panics")),
+        (Err(_), _) => Err(Verdict::Differs("the Rust panics at the load".to_string())),
+        (Ok(Err(trap)), Err(Number(n))) if number(&trap) == n => {
+            *report.refusals.entry(n).or_default() += 1;
+            Err(Verdict::Agrees)
         }
-        (Ok(Err(trap)), _) => {
-            return Verdict::Differs(format!("the Rust refuses with {}, ours {:?}", number(&trap), loaded.map(|l| l.count)))
+        (Ok(Err(trap)), other) => {
+            Err(Verdict::Differs(format!("the Rust refuses with {}, ours {:?}", number(&trap), other.map(|l| l.count))))
         }
-        (Ok(Ok(both)), _) => both,
-    };
-    let Ok(Loaded { machine, count }) = loaded else { return Verdict::Differs(format!("ours refuses: {:?}", loaded.err())) };
+        (Ok(Ok((rust, program))), Ok(loaded)) => Ok((loaded, rust, program)),
+        (Ok(Ok(_)), Err(n)) => Err(Verdict::Differs(format!("ours refuses: {n}"))),
+    }
+}
+
+// What both have after the load: the instructions, written out, and the machine.
+fn after_load(image: &[u8], tables: &Tables, loaded: &Loaded, rust: &Mm, program: &Program) -> Option<String> {
     let written: Vec<u8> = program.iter().flat_map(|(_, inst)| inst.as_bytes()).collect();
     let mut out = vec![0; 2 * 16_384];
-    let size = mm_host::encode(image, &tables, count, &mut out);
+    let size = mm_host::encode(image, tables, loaded.count, &mut out);
     if size != Ok(written.len()) || out[..written.len()] != written {
-        return Verdict::Differs("the program written out".to_string());
+        return Some("the program written out".to_string());
     }
-    if count as usize != program.len() || first_difference(&rust, &machine).is_some() {
-        return Verdict::Differs(format!(
-            "after the load: {count} and {} instructions, {:?}",
-            program.len(),
-            first_difference(&rust, &machine)
-        ));
+    if loaded.count as usize != program.len() {
+        return Some(format!("instructions: Rust {}, ours {}", program.len(), loaded.count));
     }
-    let both = Both { image, tables, count, program: &program };
-    if let Verdict::Differs(what) = both.pieces(&machine, random, report) {
+    first_difference(rust, &loaded.machine).map(|what| format!("after the load: {what}"))
+}
+
+fn judged(image: &Vec<u8>, random: &mut Random, report: &mut Report) -> Verdict {
+    let mut tables = Tables::new();
+    let (loaded, rust, program) = match load(image, &mut tables, report) {
+        Ok(both) => both,
+        Err(verdict) => return verdict,
+    };
+    if let Some(what) = after_load(image, &tables, &loaded, &rust, &program) {
         return Verdict::Differs(what);
     }
-    both.steps(rust, machine, report)
+    let both = Both { image, tables, count: loaded.count, program: &program };
+    if let Verdict::Differs(what) = both.pieces(&loaded.machine, random, report) {
+        return Verdict::Differs(what);
+    }
+    both.steps(rust, loaded.machine, report)
 }
 
 pub fn compare(image: &[u8], random: &mut Random, report: &mut Report) -> Verdict {

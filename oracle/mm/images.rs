@@ -116,8 +116,21 @@ impl Generator<'_> {
 
     // One of the family drawn where the stack has what it needs, and a PUSH otherwise. Most succeed.
     fn instruction(&mut self) {
-        let n = self.kinds.len();
-        match self.r.below(15) {
+        let family = self.r.below(15);
+        let made = match family {
+            0..=4 => self.arithmetic(family),
+            5 | 6 => self.conversion(family),
+            7 | 8 => self.memory(family),
+            _ => self.cells(family),
+        };
+        if !made {
+            let kind = self.r.pick(&[Kind::Float, Kind::Whole, Kind::Whole, Kind::Address]);
+            self.push(kind)
+        }
+    }
+
+    fn arithmetic(&mut self, family: u64) -> bool {
+        match family {
             0 | 1 if self.is(0, Kind::Whole) && self.is(1, Kind::Whole) => {
                 let families = if self.r.one_in(10) { 4 } else { 3 };
                 let op = 5 + self.r.below(families) as u8;
@@ -132,6 +145,13 @@ impl Generator<'_> {
                 let op = 23 + self.r.below(4) as u8;
                 self.replace(2, op, Kind::Float)
             }
+            _ => return false,
+        }
+        true
+    }
+
+    fn conversion(&mut self, family: u64) -> bool {
+        match family {
             5 if self.is(0, Kind::Float) => {
                 let op = if self.r.one_in(5) { 32 } else { 31 };
                 self.replace(1, op, Kind::Whole)
@@ -140,14 +160,30 @@ impl Generator<'_> {
                 let op = if self.r.one_in(5) { 33 + self.r.below(2) as u8 } else { 35 + self.r.below(2) as u8 };
                 self.replace(1, op, if op == 33 || op == 36 { Kind::Float } else { Kind::Whole })
             }
+            _ => return false,
+        }
+        true
+    }
+
+    fn memory(&mut self, family: u64) -> bool {
+        match family {
             7 if self.is(0, Kind::Address) => {
                 let op = 38 + 2 * self.r.below(4) as u8;
                 self.replace(1, op, Kind::Address)
             }
             8 if self.is(1, Kind::Address) => {
                 self.out.push(39 + 2 * self.r.below(4) as u8);
-                self.kinds.truncate(n - 2);
+                self.kinds.truncate(self.kinds.len() - 2);
             }
+            _ => return false,
+        }
+        true
+    }
+
+    // CMP, INC and DEC, DUP, SWAP, BOT and the dumps: they take cells of any kind.
+    fn cells(&mut self, family: u64) -> bool {
+        let n = self.kinds.len();
+        match family {
             9 if n >= 2 => {
                 self.out.push(9);
                 self.kinds.pop();
@@ -174,11 +210,9 @@ impl Generator<'_> {
                 let op = self.r.pick(&[27, 46]);
                 self.out.extend_from_slice(&[op, 1 + self.r.below(2) as u8]);
             }
-            _ => {
-                let kind = self.r.pick(&[Kind::Float, Kind::Whole, Kind::Whole, Kind::Address]);
-                self.push(kind)
-            }
+            _ => return false,
         }
+        true
     }
 
     // Any instruction, whatever is on the stack.
@@ -369,4 +403,17 @@ pub fn instructions(image: &[u8]) -> Vec<usize> {
     }
     starts.push(image.len());
     starts
+}
+
+// The first byte of each instruction.
+pub fn firsts(image: &[u8]) -> Vec<u8> {
+    instructions(image).iter().filter_map(|at| image.get(*at).copied()).collect()
+}
+
+// Whether a name has a byte of 128 or more: document 01's number 4, which the original doesn't have.
+pub fn has_high_name(image: &[u8]) -> bool {
+    instructions(image).windows(2).any(|w| {
+        let named = image.get(w[0]).is_some_and(|op| matches!(op, 12..=21 | 28 | 30 | 37));
+        named && image[(w[0] + 9).min(image.len())..w[1].min(image.len())].iter().any(|b| *b >= 128)
+    })
 }

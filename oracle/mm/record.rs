@@ -63,18 +63,9 @@ fn trace<'a>(m: &mut Mm<'a>, program: &'a Program, steps: usize) -> Vec<u64> {
     out
 }
 
-// Whether a name has a byte of 128 or more: document 01's number 4, which the original doesn't have.
-fn is_beyond(image: &[u8]) -> bool {
-    let starts = images::instructions(image);
-    starts.windows(2).any(|w| {
-        let named = image.get(w[0]).is_some_and(|op| matches!(op, 12..=21 | 28 | 30 | 37));
-        named && image[(w[0] + 9).min(image.len())..w[1].min(image.len())].iter().any(|b| *b >= 128)
-    })
-}
-
 // An image, then 0 and its digests, or the number of its refusal. None where the original panics or has no such rule.
 fn record(image: &Vec<u8>) -> Option<Vec<u8>> {
-    if image.len() > 1_000 || is_beyond(image) {
+    if image.len() > 1_000 || images::has_high_name(image) {
         return None;
     }
     let loaded = catch_unwind(|| Mm::from_binary("image", image, Natives::new(), Vec::new())).ok()?;

@@ -26,6 +26,14 @@ impl Report {
         }
     }
 
+    pub fn step(&mut self, op: u8, trap: Option<u64>) {
+        self.steps += 1;
+        *self.instructions.entry(op).or_default() += 1;
+        if let Some(t) = trap {
+            *self.traps.entry(t).or_default() += 1;
+        }
+    }
+
     // Of what the Rust can show: all first bytes but NATIVE's, which it panics on, and 27, which it reads as 46.
     pub fn missing(&self) -> Vec<String> {
         let instructions = (0..=46u8).chain([69]).filter(|op| *op != 37 && *op != 27 && !self.instructions.contains_key(op));

@@ -9,19 +9,19 @@ use Rattle.binary64.specs.Binary64.{infinity, quiet, Value, notANumber, 
 use Rattle.binary64.specs.SpecialCases.{SpecialCases}
 use Rattle.binary64.specs.Theorems.{SpecialCasesHold}
 
-sum-nan : (x : Value) → sum x notANumber ≡ quiet
+pub sum-nan : (x : Value) → sum x notANumber ≡ quiet
 unfolding sum
 sum-nan notANumber = refl
 sum-nan (infinite s) = refl
 sum-nan (finite s u) = refl
 
-product-nan : (x : Value) → product x notANumber ≡ quiet
+pub product-nan : (x : Value) → product x notANumber ≡ quiet
 unfolding product
 product-nan notANumber = refl
 product-nan (infinite s) = refl
 product-nan (finite s u) = refl
 
-quotient-nan : (x : Value) → quotient x notANumber ≡ quiet
+pub quotient-nan : (x : Value) → quotient x notANumber ≡ quiet
 unfolding quotient
 quotient-nan notANumber = refl
 quotient-nan (infinite s) = refl

@@ -5,9 +5,12 @@ ghost use mathlib.Core.List.{List};
 ghost use Prim.Native.Nat.{ℕ, _+_, _≤_};
 ghost use lib.ListN.{length, take};
 ghost use lib.Seq.{sets};
+ghost use Rattle.inst.specs.Forms.{formTable};
 ghost use Rattle.machine.specs.Encode.{allWellFormed, bytesOfAll, encode, outputAfter};
 ghost use Rattle.tables.specs.Tables.{instsOf};
 ghost use Rattle.encoder.specs.Encoder.{means, sized, Fits};
+use inst::TABLE_SIZE;
+use inst::form_table;
 use inst_encode::as_bytes;
 use inst_encode::checked_len;
 use tables::RECORD;
@@ -53,7 +56,14 @@ fn answer(room: usize, r: Room) -> Written
 }
 
 // The answer, without a write. Every record is tested, also behind those that fill the room, since 9 comes before 10.
-fn check(image: &[u8], insts: &[u64], count: usize, room: usize) -> Written
+fn check(
+    forms: &[u8; TABLE_SIZE],
+    image: &[u8],
+    insts: &[u64],
+    count: usize,
+    room: usize,
+) -> Written
+    requires { ⌜ now forms ≡ formTable ⌝ }
     ensures { λ r. ⌜ ((out : List ℕ) → length out ≡ room → means r ≡ encode (now (image .entry)) (instsOf (now (insts .entry))) count out) ⌝ }
 {
     if count > insts.len() / RECORD {
@@ -66,7 +76,7 @@ fn check(image: &[u8], insts: &[u64], count: usize, room: usize) -> Written
     let mut i = 0;
     while i < count {
         let inst = inst_at(insts, i);
-        let len = checked_len(image, inst);
+        let len = checked_len(forms, image, inst);
         if len == 0 {
             return Written::Refused(9);
         }
@@ -77,7 +87,8 @@ fn check(image: &[u8], insts: &[u64], count: usize, room: usize) -> Written
 }
 
 // The records' bytes from the output's front on.
-fn write(image: &[u8], insts: &[u64], count: usize, out: &mut [u8])
+fn write(forms: &[u8; TABLE_SIZE], image: &[u8], insts: &[u64], count: usize, out: &mut [u8])
+    requires { ⌜ now forms ≡ formTable ⌝ }
     requires { ⌜ count ≤ length (instsOf (now insts)) ⌝ }
     requires { ⌜ allWellFormed (now image) (take count (instsOf (now insts))) ≡ true ⌝ }
     requires { ⌜ length (bytesOfAll (now image) (take count (instsOf (now insts)))) ≤ length (now out) ⌝ }
@@ -87,7 +98,7 @@ fn write(image: &[u8], insts: &[u64], count: usize, out: &mut [u8])
     let mut i = 0;
     while i < count {
         let inst = inst_at(insts, i);
-        at += as_bytes(image, inst, out, at);
+        at += as_bytes(forms, image, inst, out, at);
         i += 1;
     }
 }
@@ -97,10 +108,11 @@ pub fn to_binary(image: &[u8], insts: &[u64], count: usize, out: &mut [u8]) -> W
     ensures { λ r. ⌜ means r ≡ encode (now (image .entry)) (instsOf (now (insts .entry))) count (now (out .entry)) ⌝ }
     ensures { λ _. ⌜ now (out .exit) ≡ outputAfter (encode (now (image .entry)) (instsOf (now (insts .entry))) count (now (out .entry))) (now (image .entry)) (instsOf (now (insts .entry))) count (now (out .entry)) ⌝ }
 {
-    let answer = check(image, insts, count, out.len());
+    let forms = form_table();
+    let answer = check(&forms, image, insts, count, out.len());
     let Written::Bytes(size) = answer else {
         return answer;
     };
-    write(image, insts, count, out);
+    write(&forms, image, insts, count, out);
     Written::Bytes(size)
 }

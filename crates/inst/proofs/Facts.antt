@@ -16,9 +16,7 @@ module _ (image : List ℕ) (i : Inst) (w : wellFormed image i ≡ true) where
   by-typ : (b : Bool) → leb (i .typ) 255 ≡ b → i .typ ≤ 255
   unfolding wellFormed fits
   by-typ true e = leb-true _ _ e
-  by-typ false e =
-      let h : 255 < i .typ = leb-false _ _ e in
-      never (rw (no-form (i .typ) (omega arith) (λ e. omega arith)) at w)
+  by-typ false e = never (rw (no-form (i .typ) (leb-false _ _ e)) at w)
 
   pub typ-byte : i .typ ≤ 255
   typ-byte = by-typ (leb (i .typ) 255) refl

@@ -10,7 +10,7 @@ use lib.Dec.{T, eqb, ltb, leb, lit<}
 use lib.ListN.{length, getD, set, take, drop, drop-of-length-le}
 use lib.Seq.{drop-cons, take-nil, sets, slice}
 use borrow.Author.Tests.{ne-eqb, lt-leb}
-use Rattle.inst.specs.Forms.{Form, none, eight, one, name, undefined, hasNone, hasEight, hasOne, hasName, formOf, numberOf, formAt}
+use Rattle.inst.specs.Forms.{Form, none, eight, one, name, undefined, hasNone, hasEight, hasOne, hasName, formOf, letterOf, formAt}
 use Rattle.inst.specs.Records.{nameOk}
 
 -- by a test, and what no test can be
@@ -37,35 +37,35 @@ pub or-right : (a b : Bool) → (a || b) ≡ false → b ≡ false
 or-right true b h = cc
 or-right false b h = h
 
--- a number past 63 has no form, but for 69
-module _ (op : ℕ) (h : 63 < op) (n : op ≡ 69 → ⊥) where
-  other : (k : ℕ) → T (ltb k 64) → eqb op k ≡ false
-  other k t = let l : k < 64 = lit< t in ne-eqb op k (λ e. omega arith)
+-- a number that is no byte has no form
+module _ (op : ℕ) (h : 255 < op) where
+  other : (k : ℕ) → T (ltb k 256) → eqb op k ≡ false
+  other k t = let l : k < 256 = lit< t in ne-eqb op k (λ e. omega arith)
 
-  above : (k : ℕ) → T (ltb k 64) → leb op k ≡ false
-  above k t = let l : k < 64 = lit< t in lt-leb op k (omega arith)
+  above : (k : ℕ) → T (ltb k 256) → leb op k ≡ false
+  above k t = let l : k < 256 = lit< t in lt-leb op k (omega arith)
 
   pub no-form : formOf op ≡ undefined
   unfolding formOf hasNone hasEight hasOne hasName
-  no-form = let t : T true = tt in simp (other, above, ne-eqb op 69 n, and-false)
+  no-form = let t : T true = tt in simp (other, above, and-false)
 
-pub form-back : (f : Form) → f ≡ formAt (numberOf f)
-unfolding numberOf
+pub form-back : (f : Form) → f ≡ formAt (letterOf f)
+unfolding letterOf
 form-back none = refl
 form-back eight = refl
 form-back one = refl
 form-back name = refl
 form-back undefined = refl
 
--- any other number stands for the undefined form
-pub other-form : (n : ℕ) → (n ≡ 1 → ⊥) → (n ≡ 2 → ⊥) → (n ≡ 3 → ⊥) → (n ≡ 4 → ⊥) → formAt n ≡ undefined
-other-form n p q r s = simp (ne-eqb n 1 p, ne-eqb n 2 q, ne-eqb n 3 r, ne-eqb n 4 s)
+-- any other letter stands for the undefined form
+pub other-form : (n : ℕ) → (n ≡ 45 → ⊥) → (n ≡ 56 → ⊥) → (n ≡ 49 → ⊥) → (n ≡ 110 → ⊥) → formAt n ≡ undefined
+other-form n p q r s = simp (ne-eqb n 45 p, ne-eqb n 56 q, ne-eqb n 49 r, ne-eqb n 110 s)
 
--- the form of a first byte, by its number
-pub is-form : (op n k : ℕ) → n ≡ numberOf (formOf op) → n ≡ k → formOf op ≡ formAt k
+-- the form of a first byte, by its letter
+pub is-form : (op n k : ℕ) → n ≡ letterOf (formOf op) → n ≡ k → formOf op ≡ formAt k
 is-form op n k e h = form-back (formOf op) ∙ ap formAt (sym e ∙ h)
 
-pub not-form : (op n : ℕ) → n ≡ numberOf (formOf op) → (n ≡ 1 → ⊥) → (n ≡ 2 → ⊥) → (n ≡ 3 → ⊥) → (n ≡ 4 → ⊥) → formOf op ≡ undefined
+pub not-form : (op n : ℕ) → n ≡ letterOf (formOf op) → (n ≡ 45 → ⊥) → (n ≡ 56 → ⊥) → (n ≡ 49 → ⊥) → (n ≡ 110 → ⊥) → formOf op ≡ undefined
 not-form op n e p q r s = form-back (formOf op) ∙ ap formAt (sym e) ∙ other-form n p q r s
 
 -- one element more

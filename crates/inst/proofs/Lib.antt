@@ -1,3 +1,3 @@
-pub mod Table
+mod Table
 pub mod Laws
 pub mod Facts

@@ -1,6 +1,7 @@
 -- The operand's form of each first byte, as document 01 lists them.
-use Prim.Native.Nat.{ℕ, _/_, _%_, _^_}
+use Prim.Native.Nat.{ℕ, zero, suc}
 use mathlib.Core.Bool.{Bool, cond, _&&_, _||_}
+use mathlib.Core.List.{List, [], _∷_}
 use lib.Dec.{eqb, leb}
 
 -- the first bytes from a to b
@@ -30,18 +31,23 @@ hasName op = within 12 21 op || eqb op 28 || eqb op 30 || eqb op 37
 unfoldable pub formOf : ℕ → Form
 formOf op = cond (hasNone op) none (cond (hasEight op) eight (cond (hasOne op) one (cond (hasName op) name undefined)))
 
--- the number of each form in the code
-unfoldable pub numberOf : Form → ℕ
-numberOf undefined = 0
-numberOf none = 1
-numberOf eight = 2
-numberOf one = 3
-numberOf name = 4
+-- the letter that stands for each form in the code's table: - 8 1 n ?
+unfoldable pub letterOf : Form → ℕ
+letterOf none = 45
+letterOf eight = 56
+letterOf one = 49
+letterOf name = 110
+letterOf undefined = 63
 
--- and the form that a number stands for
+-- and the form that a letter stands for
 abbrev pub formAt : ℕ → Form
-formAt n = cond (eqb n 1) none (cond (eqb n 2) eight (cond (eqb n 3) one (cond (eqb n 4) name undefined)))
+formAt n = cond (eqb n 45) none (cond (eqb n 56) eight (cond (eqb n 49) one (cond (eqb n 110) name undefined)))
 
--- whether bit k of a set's number is set
-abbrev pub isIn : ℕ → ℕ → Bool
-isIn set k = eqb (set / 2 ^ k % 2) 1
+-- f i and the values behind it, n in all
+abbrev pub values : {A : Type 0} → (ℕ → A) → ℕ → ℕ → List A
+values f i zero = []
+values f i (suc n) = f i ∷ values f (suc i) n
+
+-- a table of 256 entries, by first byte
+unfoldable pub formTable : List ℕ
+formTable = values (λ op. letterOf (formOf op)) 0 256

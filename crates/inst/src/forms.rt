@@ -1,54 +1,54 @@
-// The operand's form of each first byte.
+// The operand's form of each first byte: a constant table of 256 entries, 16 to a line.
 ghost use mathlib.Core.Path.{_≡_};
-ghost use Prim.Native.Nat.{_<_};
-ghost use Rattle.inst.specs.Forms.{numberOf, formOf, isIn};
+ghost use Rattle.inst.specs.Forms.{letterOf, formOf, formTable};
 
-// The forms as numbers.
-pub const UNDEFINED: u8 = 0;
+// The forms by their letters in the table.
+pub const UNDEFINED: u8 = b'?';
 
-pub const NONE: u8 = 1;
+pub const NONE: u8 = b'-';
 
-pub const EIGHT: u8 = 2;
+pub const EIGHT: u8 = b'8';
 
-pub const ONE: u8 = 3;
+pub const ONE: u8 = b'1';
 
-pub const NAME: u8 = 4;
+pub const NAME: u8 = b'n';
 
-// The table of forms by first byte, kept as a set for each form, in which bit k stands for first byte k: an array would be built
-// anew at each use. 69 alone stands past the sets.
-const NONES: u64 = 0x3FDFA7C003FD;
+pub const TABLE_SIZE: usize = 256;
 
-const EIGHTS: u64 = 0x000000000C02;
+const FORMS: [u8; TABLE_SIZE] = *b"\
+-8--------88nnnn\
+nnnnnn-----1n-n-\
+-----n--------1?\
+????????????????\
+?????-??????????\
+????????????????\
+????????????????\
+????????????????\
+????????????????\
+????????????????\
+????????????????\
+????????????????\
+????????????????\
+????????????????\
+????????????????\
+????????????????";
 
-const ONES: u64 = 0x400008000000;
-
-const NAMES: u64 = 0x0020503FF000;
-
-const HALT: u64 = 69;
-
-// Whether a first byte is in a set.
-fn is_in(set: u64, op: u64) -> bool
-    requires { ⌜ op < 64 ⌝ }
-    ensures { λ r. ⌜ r ≡ isIn set op ⌝ }
+// The table. A constant array is built anew on the stack wherever it stands in the code: so a call makes the table once, before its
+// loop, and lends it to what it calls.
+pub fn form_table() -> [u8; TABLE_SIZE]
+    ensures { λ r. ⌜ r ≡ formTable ⌝ }
 {
-    (set >> op) % 2 == 1
+    FORMS
 }
 
-// The form of a first byte. A number that is no byte is undefined too.
-pub fn form(op: u64) -> u8
-    ensures { λ r. ⌜ r ≡ numberOf (formOf op) ⌝ }
+// The form of a first byte by the table. A number that is no byte is undefined too. Only our own crates call it, and lend it the table.
+pub fn form(forms: &[u8; TABLE_SIZE], op: u64) -> u8
+    requires { ⌜ now forms ≡ formTable ⌝ }
+    ensures { λ r. ⌜ r ≡ letterOf (formOf op) ⌝ }
 {
-    if 64 <= op {
-        return if op == HALT { NONE } else { UNDEFINED };
+    if op < 256 {
+        forms[op as usize]
+    } else {
+        UNDEFINED
     }
-    if is_in(NONES, op) {
-        return NONE;
-    }
-    if is_in(EIGHTS, op) {
-        return EIGHT;
-    }
-    if is_in(NAMES, op) {
-        return NAME;
-    }
-    if is_in(ONES, op) { ONE } else { UNDEFINED }
 }

@@ -2,13 +2,14 @@
 ghost use mathlib.Core.Path.{_≡_};
 ghost use mathlib.Core.Bool.{_&&_};
 ghost use lib.Dec.{eqb};
-ghost use Rattle.inst.specs.Forms.{formAt};
+ghost use Rattle.inst.specs.Forms.{formAt, formTable};
 ghost use Rattle.inst.specs.Records.{nameOk, nameIn, fits, wellFormed};
 use crate::Inst;
 use crate::forms::EIGHT;
 use crate::forms::NAME;
 use crate::forms::NONE;
 use crate::forms::ONE;
+use crate::forms::TABLE_SIZE;
 use crate::forms::form;
 
 // The check of a name: every byte is below 128.
@@ -48,14 +49,14 @@ fn unused(a: u64, b: u64) -> bool
     if a == 0 { b == 0 } else { false }
 }
 
-// Whether a record's fields are as the form with this number asks.
-pub fn has_form(image: &[u8], inst: Inst, number: u8) -> bool
-    ensures { λ r. ⌜ r ≡ fits (now (image .entry)) inst (formAt number) ⌝ }
+// Whether a record's fields are as the form with this letter asks.
+pub fn has_form(image: &[u8], inst: Inst, letter: u8) -> bool
+    ensures { λ r. ⌜ r ≡ fits (now (image .entry)) inst (formAt letter) ⌝ }
 {
     let val = inst.val;
     let start = inst.start;
     let len = inst.len;
-    match number {
+    match letter {
         NONE => val == 0 && unused(start, len),
         EIGHT => unused(start, len),
         ONE => val <= 255 && unused(start, len),
@@ -64,9 +65,10 @@ pub fn has_form(image: &[u8], inst: Inst, number: u8) -> bool
     }
 }
 
-// Whether a record is none that number 34 calls ill.
-pub fn is_well_formed(image: &[u8], inst: Inst) -> bool
+// Whether a record is none that number 34 calls ill. Only crate known calls it, and lends it the table of forms.
+pub fn is_well_formed(forms: &[u8; TABLE_SIZE], image: &[u8], inst: Inst) -> bool
+    requires { ⌜ now forms ≡ formTable ⌝ }
     ensures { λ r. ⌜ r ≡ wellFormed (now (image .entry)) inst ⌝ }
 {
-    has_form(image, inst, form(inst.typ))
+    has_form(image, inst, form(forms, inst.typ))
 }

@@ -8,7 +8,7 @@ use lib.Dec.{eqb, ltb, leb, lit≤}
 use lib.ListN.{length, getD}
 use borrow.Author.Tests.{ne-eqb, ltb-false, leb-false, le-leb}
 use Rattle.inst.specs.declared.Inst.{Inst}
-use Rattle.inst.specs.Forms.{Form, none, eight, one, name, undefined, hasNone, hasEight, hasOne, hasName, formOf, numberOf}
+use Rattle.inst.specs.Forms.{Form, none, eight, one, name, undefined, hasNone, hasEight, hasOne, hasName, formOf, letterOf}
 use Rattle.inst.specs.Records.{Bytes, nameOk, part, nameIn, fits, wellFormed}
 use Rattle.inst.proofs.Laws.{by-test}
 use Rattle.inst_decode.specs.Decode.{Answer, refused, reads, typeOf, word, magnitude, isNegative, readName, readOperand, fromBytes}
@@ -35,13 +35,13 @@ read-as : (op : ℕ) → formOf op ≡ one → (formOf (typeOf op) ≡ one) × (
 unfolding typeOf
 read-as op e = by-test (λ t. (formOf t ≡ one) × (eqb t 27 ≡ false)) (eqb op 27) 46 op (λ _. (fdmp-form, refl)) (λ k. (e, k))
 
-not-one : (op : ℕ) (f : Form) → formOf op ≡ f → (numberOf f ≡ 3 → ⊥) → eqb op 27 ≡ false
-unfolding formOf hasNone hasEight hasOne hasName numberOf
-not-one op f e p = ne-eqb op 27 (λ h. p (ap numberOf (sym e) ∙ ap (λ (k : ℕ). numberOf (formOf k)) h))
+not-one : (op : ℕ) (f : Form) → formOf op ≡ f → (letterOf f ≡ 49 → ⊥) → eqb op 27 ≡ false
+unfolding formOf hasNone hasEight hasOne hasName letterOf
+not-one op f e p = ne-eqb op 27 (λ h. p (ap letterOf (sym e) ∙ ap (λ (k : ℕ). letterOf (formOf k)) h))
 
 module _ (image : List ℕ) (at op : ℕ) where
   named-told : (field : ℕ) → formOf op ≡ name → at + 9 ≤ length image → Told image at (readName image at op field)
-  unfolding readName wellFormed fits nameIn numberOf
+  unfolding readName wellFormed fits nameIn letterOf
   named-told field e h =
       let len = magnitude field in
       by-test (Told image at) (isNegative field) _ _ (λ _. (lit≤ tt, lit≤ tt))
@@ -52,7 +52,7 @@ module _ (image : List ℕ) (at op : ℕ) where
       (λ _. (lit≤ tt, lit≤ tt))))
 
   operand-told : (f : Form) → formOf op ≡ f → at < length image → Told image at (readOperand image at op f)
-  unfolding readOperand wellFormed fits numberOf
+  unfolding readOperand wellFormed fits letterOf
   operand-told none e h =
       record { moves = lit≤ tt; inside = omega arith; name-inside = omega arith; formed = λ _. simp e; not-idmp = not-one op none e (λ z. omega arith) }
   operand-told eight e h =

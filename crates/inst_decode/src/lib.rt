@@ -2,13 +2,14 @@
 ghost use mathlib.Core.Path.{_≡_};
 ghost use Prim.Native.Nat.{_+_, _≤_, _<_};
 ghost use lib.ListN.{length};
-ghost use Rattle.inst.specs.Forms.{eight, one, name};
+ghost use Rattle.inst.specs.Forms.{eight, one, name, formTable};
 ghost use Rattle.inst_decode.specs.Decode.{means, word, typeOf, isNegative, readName, readOperand, fromBytes};
 use inst::EIGHT;
 use inst::Inst;
 use inst::NAME;
 use inst::NONE;
 use inst::ONE;
+use inst::TABLE_SIZE;
 use inst::form;
 use inst::name_ok;
 
@@ -136,15 +137,16 @@ fn read_named(image: &[u8], at: usize, op: u64) -> Decoded
     read_name(image, at, op, word_at(image, at + 1))
 }
 
-// The instruction at an offset of the image.
-pub fn from_bytes(image: &[u8], at: usize) -> Decoded
+// The instruction at an offset of the image. Only the loader calls it, and lends it the table of forms.
+pub fn from_bytes(forms: &[u8; TABLE_SIZE], image: &[u8], at: usize) -> Decoded
+    requires { ⌜ now forms ≡ formTable ⌝ }
     ensures { λ r. ⌜ means r ≡ fromBytes (now (image .entry)) at ⌝ }
 {
     if image.len() <= at {
         return Decoded::Undefined;
     }
     let op = image[at] as u64;
-    match form(op) {
+    match form(forms, op) {
         NONE => Decoded::Read(
             Inst {
                 typ: op,

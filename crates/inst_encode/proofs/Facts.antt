@@ -9,7 +9,7 @@ use lib.ListN.{length}
 use lib.Seq.{length-slice}
 use borrow.Author.Tests.{eqb-true, leb-true}
 use Rattle.inst.specs.declared.Inst.{Inst}
-use Rattle.inst.specs.Forms.{Form, none, eight, one, name, undefined, formOf, numberOf, formAt}
+use Rattle.inst.specs.Forms.{Form, none, eight, one, name, undefined, formOf, letterOf, formAt}
 use Rattle.inst.specs.Records.{part, nameIn, fits, wellFormed}
 use Rattle.inst.proofs.Laws.{never, and-left, and-right, form-back}
 use Rattle.inst_encode.specs.Encode.{bytesOf, operandBytes, asBytes, headSize, encodedSize}
@@ -59,7 +59,7 @@ module _ (image : List ℕ) (i : Inst) where
   size-below w = sized (formOf (i .typ)) w .1
 
   -- the code's answers to both
-  pub formed : (b : Bool) (n : ℕ) → n ≡ numberOf (formOf (i .typ)) → b ≡ fits image i (formAt n) → b ≡ wellFormed image i
+  pub formed : (b : Bool) (n : ℕ) → n ≡ letterOf (formOf (i .typ)) → b ≡ fits image i (formAt n) → b ≡ wellFormed image i
   unfolding wellFormed
   formed b n e h = h ∙ ap (fits image i) (ap formAt e ∙ sym (form-back (formOf (i .typ))))
 

@@ -7,7 +7,7 @@ use native.Mathlib.Omega.{arith}
 use lib.ListN.{length, set}
 use lib.Seq.{sets}
 use Rattle.inst.specs.declared.Inst.{Inst}
-use Rattle.inst.specs.Forms.{Form, none, eight, one, name, undefined, formOf, numberOf}
+use Rattle.inst.specs.Forms.{Form, none, eight, one, name, undefined, formOf, letterOf}
 use Rattle.inst.proofs.Laws.{sets-more}
 use Rattle.inst_encode.specs.Encode.{bytesOf, operandBytes, asBytes, headSize}
 
@@ -37,8 +37,8 @@ pub bytes-are : (image : List ℕ) (i : Inst) (f : Form) → formOf (i .typ) ≡
 unfolding asBytes
 bytes-are image i f e = rw e
 
-pub no-operand : (image : List ℕ) (i : Inst) (f : Form) (n : ℕ) → n ≡ numberOf f → (n ≡ 2 → ⊥) → (n ≡ 3 → ⊥) → (n ≡ 4 → ⊥) → (operandBytes image i f ≡ []) × (headSize f ≡ 1)
-unfolding numberOf operandBytes headSize
+pub no-operand : (image : List ℕ) (i : Inst) (f : Form) (n : ℕ) → n ≡ letterOf f → (n ≡ 56 → ⊥) → (n ≡ 49 → ⊥) → (n ≡ 110 → ⊥) → (operandBytes image i f ≡ []) × (headSize f ≡ 1)
+unfolding letterOf operandBytes headSize
 no-operand image i none n e p q r = (refl, refl)
 no-operand image i eight n e p q r = absurd (p e)
 no-operand image i one n e p q r = absurd (q e)

@@ -5,12 +5,14 @@ ghost use mathlib.Core.List.{_++_};
 ghost use Prim.Native.Nat.{_+_, _≤_};
 ghost use lib.ListN.{length};
 ghost use lib.Seq.{sets};
+ghost use Rattle.inst.specs.Forms.{formTable};
 ghost use Rattle.inst.specs.Records.{part, wellFormed};
 ghost use Rattle.inst_encode.specs.Encode.{bytesOf, asBytes, encodedSize};
 use inst::EIGHT;
 use inst::Inst;
 use inst::NAME;
 use inst::ONE;
+use inst::TABLE_SIZE;
 use inst::form;
 use inst::has_form;
 
@@ -53,16 +55,17 @@ fn put_named(out: &mut [u8], at: usize, image: &[u8], start: u64, len: u64)
 }
 
 // How many bytes a record's encoding has, at most 9 more than its image; 0 for a record that number 34 calls ill. One search
-// for the form serves both.
-pub fn checked_len(image: &[u8], inst: Inst) -> usize
+// for the form serves both. Only the encoder calls it, and lends it the table of forms.
+pub fn checked_len(forms: &[u8; TABLE_SIZE], image: &[u8], inst: Inst) -> usize
+    requires { ⌜ now forms ≡ formTable ⌝ }
     ensures { λ r. ⌜ r ≡ cond (wellFormed (now (image .entry)) inst) (encodedSize inst) 0 ⌝ }
 {
-    let number = form(inst.typ);
-    if !has_form(image, inst, number) {
+    let letter = form(forms, inst.typ);
+    if !has_form(image, inst, letter) {
         return 0;
     }
     let len = inst.len as usize;
-    match number {
+    match letter {
         EIGHT => 9 + len,
         ONE => 2 + len,
         NAME => 9 + len,
@@ -71,15 +74,23 @@ pub fn checked_len(image: &[u8], inst: Inst) -> usize
 }
 
 // Writes a record's bytes from `at` on and returns how many they are. The rest of the output stays.
-// Only the encoder calls it, and proves both: it tests the record, and the room for all before it writes the first.
-pub fn as_bytes(image: &[u8], inst: Inst, out: &mut [u8], at: usize) -> usize
+// Only the encoder calls it, and proves all three: it lends the table of forms, and tests the record, and the room for all before it
+// writes the first.
+pub fn as_bytes(
+    forms: &[u8; TABLE_SIZE],
+    image: &[u8],
+    inst: Inst,
+    out: &mut [u8],
+    at: usize,
+) -> usize
+    requires { ⌜ now forms ≡ formTable ⌝ }
     requires { ⌜ wellFormed (now image) inst ≡ true ⌝ }
     requires { ⌜ at + length (asBytes (now image) inst) ≤ length (now out) ⌝ }
     ensures { λ r. ⌜ r ≡ length (asBytes (now (image .entry)) inst) ⌝ }
     ensures { λ r. ⌜ now (out .exit) ≡ sets (now (out .entry)) at (asBytes (now (image .entry)) inst) ⌝ }
 {
     out[at] = inst.typ as u8;
-    match form(inst.typ) {
+    match form(forms, inst.typ) {
         EIGHT => {
             put_number(out, at + 1, 8, inst.val);
             9

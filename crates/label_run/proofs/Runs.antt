@@ -16,7 +16,7 @@ use Rattle.tables.specs.Tables.{instsOf}
 use Rattle.step_core.specs.declared.Core.{Core}
 use Rattle.step_core.specs.Parts.{whole}
 use Rattle.lookup.specs.Walks.{lent, Finds}
-use Rattle.quick.specs.Known.{knownLimit, unknown}
+use Rattle.known.specs.Known.{knownLimit, unknown}
 use Rattle.run.specs.declared.progress.Progress.{Progress}
 use Rattle.run.specs.declared.Ran.{Ran}
 use Rattle.run.specs.Turns.{endingOf}

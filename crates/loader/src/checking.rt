@@ -14,6 +14,7 @@ use crate::Loading;
 use crate::Next;
 use crate::reading::first;
 use crate::reading::next_inst;
+use inst::form_table;
 
 // The instructions with an appended HALT.
 fn closed_count(insts: usize, halt: bool) -> usize
@@ -48,9 +49,10 @@ pub fn check(image: &[u8]) -> Loading
     if image.len() > IMAGE_LIMIT {
         return Loading::Refused(1);
     }
+    let forms = form_table();
     let mut c = first();
     while c.at < image.len() {
-        let did = next_inst(image, c);
+        let did = next_inst(&forms, image, c);
         match did {
             Next::Refused(n) => {
                 return Loading::Refused(n);

@@ -27,6 +27,7 @@ use crate::checking::check;
 use crate::reading::first;
 use crate::reading::next_inst;
 use inst::Inst;
+use inst::form_table;
 use tables::put;
 
 // A label record, linked first: it leads to what the head led to, and the head to it. Index 0 makes the head itself, zero.
@@ -148,9 +149,10 @@ pub fn fill(image: &[u8], insts: &mut [u64], p: Pending) -> Pending
     requires { ⌜ (instLimit * 4 ≤ length (now insts)) × (p .count ≤ instLimit) ⌝ }
     ensures { λ r. ⌜ Fills (now (image .entry)) (now (insts .entry)) p r (now (insts .exit)) ⌝ }
 {
+    let forms = form_table();
     let mut c = p.counts;
     while c.at < image.len() {
-        let did = next_inst(image, c);
+        let did = next_inst(&forms, image, c);
         let Next::Read(d, i) = did else {
             return ended(p);
         };

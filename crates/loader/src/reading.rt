@@ -4,6 +4,7 @@ ghost use mathlib.Core.Bool.{_||_, cond};
 ghost use mathlib.Core.List.{List};
 ghost use Prim.Native.Nat.{ℕ, _+_, _^_, _≤_, _<_};
 ghost use lib.ListN.{length};
+ghost use Rattle.inst.specs.Forms.{formTable};
 ghost use Rattle.inst.specs.Records.{part};
 ghost use Rattle.inst_decode.specs.Decode.{means, fromBytes};
 ghost use Rattle.machine.specs.Limits.{instLimit, labelRecords};
@@ -17,6 +18,7 @@ use crate::LABEL;
 use crate::LABEL_RECORDS;
 use crate::NATIVE;
 use crate::Next;
+use inst::TABLE_SIZE;
 use inst_decode::Decoded;
 use inst_decode::from_bytes;
 
@@ -120,12 +122,13 @@ fn labelled(c: Counts, start: bool, index: usize) -> Counts
 }
 
 // One instruction more: 2, 3 or 4, then 5, 6. The answer is that of whatever scan the counts stand for: only the two passes
-// call it, with counts that stand for one.
-pub fn next_inst(image: &[u8], c: Counts) -> Next
+// call it, with counts that stand for one, and lend it the table of forms.
+pub fn next_inst(forms: &[u8; TABLE_SIZE], image: &[u8], c: Counts) -> Next
+    requires { ⌜ now forms ≡ formTable ⌝ }
     ensures { λ r. ⌜ ((s : Scan) → 0 < length (s .labels) → c ≡ countsOf (now (image .entry)) s → r ≡ nextOf (now (image .entry)) (scanOne s (fromBytes (now (image .entry)) (s .at)))) ⌝ }
     ensures { λ r. ⌜ Ahead (length (now (image .entry))) c r ⌝ }
 {
-    let did = from_bytes(image, c.at);
+    let did = from_bytes(forms, image, c.at);
     let Decoded::Read(i, size) = did else {
         return Next::Refused(number(did));
     };

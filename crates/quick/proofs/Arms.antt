@@ -12,7 +12,7 @@ use Rattle.step_core.specs.declared.Executed.{Executed}
 use Rattle.step_core.specs.declared.Executed.the-variants.{Next, Compared, Dump, Halt, Trap, Ill}
 use Rattle.step_core.specs.Parts.{whole, Acts}
 use Rattle.quick.specs.declared.Quick.{Quick}
-use Rattle.quick.specs.Known.{looksUp}
+use Rattle.known.specs.Known.{looksUp}
 use Rattle.quick.specs.Quick.{StepOrStop, successOf, stepAt}
 
 -- of an answer only success counts

@@ -10,27 +10,20 @@ use Rattle.inst.specs.declared.Inst.{Inst}
 use Rattle.machine.specs.declared.Machine.{Machine}
 use Rattle.machine.specs.Limits.{stackLimit, callLimit}
 use Rattle.machine.specs.Change as change
-use Rattle.machine.specs.Load.{halt}
 use Rattle.machine.specs.Lookup.{Program, leadsTo, lookup}
 use Rattle.machine.specs.Step.{Stepped, succeeds, ill, exec, opOf, step, wellState, instAt}
 use Rattle.machine.specs.Run.{Course, course, turn, before, taken, isIll, isDump, after}
 use Rattle.quick.proofs.Turns.{course-turn, before-on}
 use Rattle.tables.specs.Tables.{inst}
-use Rattle.tables.proofs.Laws.{record-at, length-records}
 use Rattle.step_core.specs.declared.Core.{Core}
 use Rattle.step_core.specs.Parts.{whole, Inside}
 use Rattle.quick.specs.declared.Quick.the-variants.{Success}
-use Rattle.quick.specs.Known.{knownLimit, unknown, instOf, KnownAt, Over, Known}
+use Rattle.known.specs.Known.{knownLimit, unknown, instOf, KnownAt, Over, Known}
+use Rattle.known.proofs.Records.{inst-is, within}
 use Rattle.quick.specs.Quick.{StepOrStop, ExecutesKnown, stepAt}
 use Rattle.quick.specs.Courses.{plus, Leads}
 
 module _ (p : Program) (xs : List ℕ) (o : Over p xs) (m : Machine) where
-  pub inst-is : m .ip < p .count → instAt p m ≡ instOf xs (m .ip)
-  inst-is h = rw (o .table) (record-at inst xs (m .ip) halt (omega (arith, h, o .inside)))
-
-  pub within : p .count ≤ length (p .insts)
-  within = rw (o .table) (omega (arith, o .inside, length-records inst xs))
-
   module _ (key t : ℕ) (k : KnownAt p xs key t (m .ip)) where
     -- the record with its key
     keyed : instOf xs (m .ip) ≡ inst key (getD xs (m .ip * 4 + 1) 0) (getD xs (m .ip * 4 + 2) 0) (getD xs (m .ip * 4 + 3) 0)
@@ -39,13 +32,13 @@ module _ (p : Program) (xs : List ℕ) (o : Over p xs) (m : Machine) where
     module _ (h : m .height ≤ stackLimit) (d : change.callHeight m ≤ callLimit) where
       well : wellState p m ≡ true
       unfolding wellState
-      well = rw (le-leb _ _ h, le-leb _ _ d, lt-ltb _ _ (k .below), le-leb _ _ within, inst-is (k .below), k .formed)
+      well = rw (le-leb _ _ h, le-leb _ _ d, lt-ltb _ _ (k .below), le-leb _ _ (within p xs o m), inst-is p xs o m (k .below), k .formed)
 
       -- a known instruction's step
       pub known-step :
           step p m ≡ exec (lookup p (instOf xs (m .ip))) (inst key (getD xs (m .ip * 4 + 1) 0) (getD xs (m .ip * 4 + 2) 0) (getD xs (m .ip * 4 + 3) 0)) m (opOf key)
       unfolding step
-      known-step = rw well (rw (inst-is (k .below)) (ap (λ (i : Inst). exec (lookup p (instOf xs (m .ip))) i m (opOf (i .typ))) keyed))
+      known-step = rw well (rw (inst-is p xs o m (k .below)) (ap (λ (i : Inst). exec (lookup p (instOf xs (m .ip))) i m (opOf (i .typ))) keyed))
 
 -- a step that succeeds is one turn
 success-turn : (p : Program) (left room : ℕ) (m m' : Machine) → 0 < left → m .halted ≡ false → step p m ≡ succeeds m' →

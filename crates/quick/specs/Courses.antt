@@ -8,7 +8,7 @@ use Rattle.machine.specs.Lookup.{Program}
 use Rattle.machine.specs.Run.{Course, course}
 use Rattle.step_core.specs.Parts.{whole, Inside}
 use Rattle.quick.specs.declared.Reached.{Reached}
-use Rattle.quick.specs.Known.{Known, Over}
+use Rattle.known.specs.Known.{Known, Over}
 
 -- a course with k steps before it that dump nothing
 abbrev pub plus : ℕ → Course → Course

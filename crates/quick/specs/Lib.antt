@@ -1,3 +1,2 @@
-pub mod Known
 pub mod Quick
 pub mod Courses

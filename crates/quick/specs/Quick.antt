@@ -13,7 +13,7 @@ use Rattle.step_core.specs.declared.Core.{Core}
 use Rattle.step_core.specs.declared.Executed.{Executed}
 use Rattle.step_core.specs.declared.Executed.the-variants.{Next, Compared, Dump, Halt, Trap, Ill}
 use Rattle.step_core.specs.Parts.{whole, Inside}
-use Rattle.quick.specs.Known.{unknown, looksUp}
+use Rattle.known.specs.Known.{unknown, looksUp}
 use Rattle.quick.specs.declared.Quick.{Quick}
 use Rattle.quick.specs.declared.Quick.the-variants.{Success, Stop}
 

@@ -10,9 +10,10 @@ ghost use Rattle.machine.specs.Step as definition;
 ghost use Rattle.machine.specs.Change.{onward};
 ghost use Rattle.flag.specs.Flags.{isSet};
 ghost use Rattle.step_core.specs.Parts.{Inside, whole};
-ghost use Rattle.quick.specs.Known.{knownLimit, unknown, Listed};
+ghost use Rattle.known.specs.Known.{knownLimit, unknown, Listed};
 ghost use Rattle.quick.specs.Quick.{QuickOnCore, QuickOnCalls, ExecutesKnown, successOf};
 ghost use Rattle.quick.specs.Courses.{Leads};
+use known::KNOWN_LIMIT;
 use machine::CALL_LIMIT;
 use machine::MEMORY_SIZE;
 use machine::STACK_LIMIT;
@@ -24,12 +25,6 @@ use step_flow::calls::ret;
 use step_flow::jumps::compare;
 use step_integer::integer_step;
 use step_stack::cells;
-
-// So many instructions can be known, from the first on.
-pub const KNOWN_LIMIT: usize = 4096;
-
-// The key of an instruction that isn't known.
-pub const UNKNOWN: u8 = 255;
 
 // The machine's numbers and flags after the step; or no step was made.
 pub enum Quick {

@@ -22,7 +22,7 @@ use Rattle.tables.proofs.Laws.{length-records}
 use Rattle.step_core.specs.declared.Core.{Core}
 use Rattle.step_core.specs.Parts.{callHeight, whole, Inside}
 use Rattle.lookup.specs.Walks.{lent}
-use Rattle.quick.specs.Known.{knownLimit, unknown, Known}
+use Rattle.known.specs.Known.{knownLimit, unknown, Known}
 use Rattle.run.specs.declared.progress.Progress.{Progress}
 use Rattle.run.specs.Turns.{endingOf, closed, asking, ending}
 use Rattle.run.specs.Runs.{Reaches, Begins}

@@ -17,11 +17,11 @@ use Rattle.step_core.specs.declared.Core.{Core}
 use Rattle.step_core.specs.Parts.{whole, Inside, foundOf}
 use Rattle.lookup.specs.Walks.{lent}
 use Rattle.quick.specs.declared.Reached.{Reached}
-use Rattle.quick.specs.Known.{instOf, Listed}
+use Rattle.known.specs.Known.{instOf, Sized, Listed}
 use Rattle.quick.specs.Courses as quick
 use Rattle.step.specs.declared.Tried.{Tried}
 use Rattle.step.specs.declared.Tried.the-variants.{Done, Asks}
-use Rattle.step.specs.Steps.{Told, Sized, Tries}
+use Rattle.step.specs.Steps.{Told, Tries}
 use Rattle.run.specs.declared.progress.Progress.{Progress}
 use Rattle.run.specs.declared.progress.Turn.{Turn}
 use Rattle.run.specs.declared.progress.Turn.the-variants.{Go, End}

@@ -14,10 +14,10 @@ use Rattle.step_core.specs.declared.Core.{Core}
 use Rattle.step_core.specs.declared.Executed.{Executed}
 use Rattle.step_core.specs.Parts.{whole, means}
 use Rattle.quick.specs.declared.Reached.{Reached}
-use Rattle.quick.specs.Known.{Known}
+use Rattle.known.specs.Known.{Known, Sized}
 use Rattle.quick.specs.Courses as quick
 use Rattle.quick.proofs.Turns.{course-turn}
-use Rattle.step.specs.Steps.{Made, Sized}
+use Rattle.step.specs.Steps.{Made}
 use Rattle.run.specs.declared.progress.Progress.{Progress}
 use Rattle.run.specs.declared.progress.Turn.the-variants.{Go, End}
 use Rattle.run.specs.Turns.{more, closed, turned, Follows, ending}

@@ -15,8 +15,8 @@ use Rattle.tables.specs.Tables.{instsOf, program}
 use Rattle.step_core.specs.declared.Core.{Core}
 use Rattle.step_core.specs.Parts.{whole, Inside}
 use Rattle.lookup.specs.Walks.{lent, Finds}
-use Rattle.quick.specs.Known.{knownLimit, unknown, Known, Listed, Over}
-use Rattle.step.specs.Steps.{NamedAt, Sized}
+use Rattle.known.specs.Known.{knownLimit, unknown, Known, Sized, Listed, Over}
+use Rattle.step.specs.Steps.{NamedAt}
 use Rattle.run.specs.declared.progress.Progress.{Progress}
 use Rattle.run.specs.declared.Ran.{Ran}
 use Rattle.run.specs.Turns.{more, closed, endingOf}

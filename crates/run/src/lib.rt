@@ -18,14 +18,15 @@ use crate::progress::Turn;
 use crate::progress::asks;
 use crate::progress::ends;
 use crate::progress::follow;
+use inst::form_table;
+use known::KNOWN_LIMIT;
+use known::UNKNOWN;
 use lookup::lookup;
 use machine::CALL_LIMIT;
 use machine::Ending;
 use machine::MEMORY_SIZE;
 use machine::Machine;
 use machine::STACK_LIMIT;
-use quick::KNOWN_LIMIT;
-use quick::UNKNOWN;
 use quick::run_known;
 use step::step;
 use step_core::Core;
@@ -81,7 +82,7 @@ pub fn begin(
 // or a name must be looked up. `asked` is what was found for the name that it asked for, 0 if for none. The loop keeps:
 // - the limit less `left` steps lead to the machine of core, flags and the arrays, with dumps[..n] dumped;
 // - heights are within their limits;
-// - what step's known.rt says of keys and targets.
+// - what crate known says of keys and targets.
 pub fn steps(
     image: &[u8],
     insts: &[u64],
@@ -98,6 +99,7 @@ pub fn steps(
     requires { ⌜ Ready (now insts) count from (now dumps) (now keys) (now targets) ⌝ }
     ensures { λ r. ⌜ Advances (now (image .entry)) (now (insts .entry)) count from asked (now (dumps .entry)) (now (keys .entry)) (now (targets .entry)) (now (stack .entry)) (now (calls .entry)) (now (memory .entry)) r (now (dumps .exit)) (now (keys .exit)) (now (targets .exit)) (now (stack .exit)) (now (calls .exit)) (now (memory .exit)) ⌝ }
 {
+    let forms = form_table();
     let mut core = from.core;
     let mut flags = from.flags;
     let mut left = from.left;
@@ -105,6 +107,7 @@ pub fn steps(
     let mut found = asked;
     while left > 0 {
         let tried = step(
+            &forms,
             image,
             insts,
             count,

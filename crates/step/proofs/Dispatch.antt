@@ -13,7 +13,7 @@ use lib.ListN.{getD}
 use borrow.Author.Tests.{ne-eqb, leb-true, lt-leb}
 use Rattle.inst.proofs.Laws.{never, and-left, and-right}
 use Rattle.machine.specs.Step.{Op, NOP, PUSH, POP, INC, DEC, CMP, SWAP, DUP, BOT, JCC, JMP, CALL, RET, DMP, READ, WRITE, HALT, integer, float, conversion, numbered, opOf}
-use Rattle.quick.specs.Known.{looksUp}
+use Rattle.known.specs.Known.{looksUp}
 
 -- the first bytes below 47 that execute_instruction names: one by one, and in ranges
 abbrev pub isNamedAlone : ℕ → Bool

@@ -1,3 +1,2 @@
 pub mod Dispatch
-pub mod Keeping
 pub mod Whole

@@ -20,8 +20,8 @@ use Rattle.step_core.specs.declared.Executed.{Executed}
 use Rattle.step_core.specs.declared.Executed.the-variants.{Next, Compared, Dump, Halt, Trap, Ill}
 use Rattle.step_core.specs.Parts.{foundOf, whole, Inside, Acts}
 use Rattle.lookup.specs.Walks.{lent}
-use Rattle.quick.specs.Known.{looksUp, instOf, KnownAt, Over}
-use Rattle.quick.proofs.Steps.{inst-is, within}
+use Rattle.known.specs.Known.{looksUp, instOf, KnownAt, Over}
+use Rattle.known.proofs.Records.{inst-is, within}
 use Rattle.step.specs.Steps.{Made}
 
 -- a target that was found

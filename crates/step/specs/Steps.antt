@@ -3,7 +3,7 @@ use Prim.Native.Nat.{ℕ, _+_, _*_, _<_}
 use mathlib.Core.Path.{_≡_}
 use mathlib.Core.Bool.{true, false}
 use mathlib.Core.List.{List}
-use lib.ListN.{length, getD}
+use lib.ListN.{getD}
 use Rattle.inst.specs.Records.{nameIn}
 use Rattle.machine.specs.declared.Machine.{Machine}
 use Rattle.machine.specs.declared.Label.{Label}
@@ -14,7 +14,7 @@ use Rattle.step_core.specs.declared.Core.{Core}
 use Rattle.step_core.specs.declared.Executed.{Executed}
 use Rattle.step_core.specs.Parts.{whole, means, Small, Untaken, Acts, foundOf}
 use Rattle.lookup.specs.Walks.{lent}
-use Rattle.quick.specs.Known.{knownLimit, instOf, Known, Listed}
+use Rattle.known.specs.Known.{instOf, Known, Sized, Listed}
 use Rattle.step.specs.declared.Tried.{Tried}
 use Rattle.step.specs.declared.Tried.the-variants.{Done, Asks}
 
@@ -41,11 +41,6 @@ NamedAt xs ip start len = (getD xs (ip * 4 + 2) 0 ≡ start) × (getD xs (ip * 4
 -- what `found` says of the instruction at the index ip: nothing, or what its lookup finds
 abbrev pub Told : Program → List ℕ → ℕ → ℕ → Type 0
 Told p xs ip found = 0 < found → foundOf found ≡ lookup p (instOf xs ip)
-
--- the two arrays have their length
-pub record Sized (keys targets : List ℕ) : Type 0 where
-  pub keys-long : length keys ≡ knownLimit
-  pub targets-long : length targets ≡ knownLimit
 
 -- where a run goes on, the heights are within their limits
 abbrev pub SmallTried : Tried → Type 0

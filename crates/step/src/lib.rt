@@ -5,22 +5,19 @@ ghost use mathlib.Core.Path.{_≡_};
 ghost use mathlib.Core.Bool.{true, false};
 ghost use Prim.Native.Nat.{_+_, _*_, _≤_, _<_};
 ghost use lib.ListN.{length};
-ghost use Rattle.inst.specs.Records.{wellFormed};
+ghost use Rattle.inst.specs.Forms.{formTable};
 ghost use Rattle.step_core.specs.Parts.{Inside, Tested, foundOf};
-ghost use Rattle.quick.specs.Known.{knownLimit, looksUp, instOf, Listed};
-ghost use Rattle.step.specs.Keeps.{KeepsPlain, Learns};
-ghost use Rattle.step.specs.Steps.{Jumps, Executes, Sized, Tries};
-
-mod known;
-
-use crate::known::end_of;
-use crate::known::keep;
-use crate::known::keep_jump;
-use inst::Inst;
+ghost use Rattle.known.specs.Known.{looksUp, Sized, Listed};
+ghost use Rattle.step.specs.Steps.{Jumps, Executes, Tries};
+use inst::TABLE_SIZE;
+use known::KNOWN_LIMIT;
+use known::is_well_formed_at;
+use known::keep_jump;
+use known::learn;
+use known::looks_up;
 use machine::CALL_LIMIT;
 use machine::MEMORY_SIZE;
 use machine::STACK_LIMIT;
-use quick::KNOWN_LIMIT;
 use step_convert::convert;
 use step_core::Core;
 use step_core::Executed;
@@ -39,62 +36,6 @@ use step_stack::cells;
 pub enum Tried {
     Done(Executed),
     Asks(u64, u64),
-}
-
-// Whether the record at an index of the table is none that number 34 calls ill.
-fn is_well_formed_at(image: &[u8], insts: &[u64], at: usize) -> bool
-    requires { ⌜ at * 4 + 3 < length (now insts) ⌝ }
-    ensures { λ r. ⌜ r ≡ wellFormed (now (image .entry)) (instOf (now (insts .entry)) at) ⌝ }
-{
-    let i = at * 4;
-    inst::is_well_formed(
-        image,
-        Inst {
-            typ: insts[i],
-            val: insts[i + 1],
-            start: insts[i + 2],
-            len: insts[i + 3],
-        },
-    )
-}
-
-// Whether an instruction looks its name up: the jumps and CALL.
-fn looks_up(op: u64) -> bool
-    ensures { λ r. ⌜ r ≡ looksUp op ⌝ }
-{
-    if op == 28 {
-        true
-    } else {
-        if 12 <= op { op <= 20 } else { false }
-    }
-}
-
-// Keeps the instruction at an index if it is known once its record is tested: it needs no lookup.
-fn keep_plain(image: &[u8], insts: &[u64], keys: &mut [u8; KNOWN_LIMIT], at: usize)
-    requires { ⌜ at * 4 + 3 < length (now insts) ⌝ }
-    ensures { λ _. ⌜ KeepsPlain (now (image .entry)) (now (insts .entry)) (now (keys .entry)) at (now (keys .exit)) ⌝ }
-{
-    let op = insts[at * 4];
-    if looks_up(op) {
-        return;
-    }
-    if is_well_formed_at(image, insts, at) {
-        keep(keys, at, op);
-    }
-}
-
-// Keeps the instructions from an index on that need no lookup, unless the first is kept. So straight code comes here once in
-// many instructions, and the quick loop takes the others from their first use on.
-fn learn(image: &[u8], insts: &[u64], count: usize, keys: &mut [u8; KNOWN_LIMIT], from: usize)
-    requires { ⌜ (count * 4 ≤ length (now insts)) × (length (now keys) ≡ knownLimit) ⌝ }
-    ensures { λ _. ⌜ Learns (now (image .entry)) (now (insts .entry)) count (now (keys .entry)) (now (keys .exit)) ⌝ }
-{
-    let end = end_of(keys, from, count);
-    let mut i = from;
-    while i < end {
-        keep_plain(image, insts, keys, i);
-        i += 1;
-    }
 }
 
 // A jump or CALL, by what its lookup found.
@@ -152,6 +93,7 @@ fn execute_instruction(
 // The step at the pointer. `found` is what was found for its name, or 0: not looked up yet. Heights within their limits
 // and a count within its table were tested once, before the first step: no step breaks them.
 pub fn step(
+    forms: &[u8; TABLE_SIZE],
     image: &[u8],
     insts: &[u64],
     count: usize,
@@ -164,6 +106,7 @@ pub fn step(
     calls: &mut [u64; CALL_LIMIT],
     memory: &mut [u8; MEMORY_SIZE],
 ) -> Tried
+    requires { ⌜ now forms ≡ formTable ⌝ }
     requires { ⌜ Inside core × (count * 4 ≤ length (now insts)) × Sized (now keys) (now targets) × Listed (now insts) (now keys) (now targets) ⌝ }
     ensures { λ r. ⌜ Tries (now (image .entry)) (now (insts .entry)) count core flags found (now (keys .entry)) (now (targets .entry)) (now (stack .entry)) (now (calls .entry)) (now (memory .entry)) r (now (keys .exit)) (now (targets .exit)) (now (stack .exit)) (now (calls .exit)) (now (memory .exit)) ⌝ }
 {
@@ -171,7 +114,7 @@ pub fn step(
     if count <= ip {
         return Tried::Done(Executed::Ill);
     }
-    if !is_well_formed_at(image, insts, ip) {
+    if !is_well_formed_at(forms, image, insts, ip) {
         return Tried::Done(Executed::Ill);
     }
     let op = insts[ip * 4];
@@ -182,7 +125,7 @@ pub fn step(
         keep_jump(keys, targets, ip, op, found);
         Tried::Done(execute_jump(op, found, flags, core, calls))
     } else {
-        learn(image, insts, count, keys, ip);
+        learn(forms, image, insts, count, keys, ip);
         Tried::Done(execute_instruction(op, insts[ip * 4 + 1], core, stack, calls, memory))
     }
 }

@@ -2,30 +2,13 @@
 use Prim.Native.Nat.{ℕ}
 use mathlib.Core.Path.{_≡_, refl}
 use mathlib.Core.Bool.{Bool, true, false, _||_}
-use Rattle.binary64.specs.Binary64.{Value, notANumber, infinite, finite, value, isNaN, quiet, sum, opposite, product, quotient, sumBits, differenceBits, productBits, quotientBits}
+use Rattle.binary64.specs.Binary64.{notANumber, value, isNaN, quiet, sum, opposite, product, quotient, sumBits, differenceBits, productBits, quotientBits}
+use Rattle.binary64.proofs.Special.{sum-nan, product-nan, quotient-nan}
 use Rattle.machine.specs.Step.{Float, FADD, FSUB, FMUL, FDIV, ofFloats}
 
 nan-is : (a : ℕ) → isNaN a ≡ true → value a ≡ notANumber
 unfolding value
 nan-is a h = rw h
-
-sum-right : (x : Value) → sum x notANumber ≡ quiet
-unfolding sum
-sum-right notANumber = refl
-sum-right (infinite s) = refl
-sum-right (finite s u) = refl
-
-product-right : (x : Value) → product x notANumber ≡ quiet
-unfolding product
-product-right notANumber = refl
-product-right (infinite s) = refl
-product-right (finite s u) = refl
-
-quotient-right : (x : Value) → quotient x notANumber ≡ quiet
-unfolding quotient
-quotient-right notANumber = refl
-quotient-right (infinite s) = refl
-quotient-right (finite s u) = refl
 
 module _ (a b : ℕ) where
   nan-left : (k : Float) → isNaN a ≡ true → ofFloats k a b ≡ quiet
@@ -37,10 +20,10 @@ module _ (a b : ℕ) where
 
   nan-right : (k : Float) → isNaN b ≡ true → ofFloats k a b ≡ quiet
   unfolding ofFloats sumBits differenceBits productBits quotientBits opposite
-  nan-right FADD h = rw (nan-is b h) (sum-right (value a))
-  nan-right FSUB h = rw (nan-is b h) (sum-right (value a))
-  nan-right FMUL h = rw (nan-is b h) (product-right (value a))
-  nan-right FDIV h = rw (nan-is b h) (quotient-right (value a))
+  nan-right FADD h = rw (nan-is b h) (sum-nan (value a))
+  nan-right FSUB h = rw (nan-is b h) (sum-nan (value a))
+  nan-right FMUL h = rw (nan-is b h) (product-nan (value a))
+  nan-right FDIV h = rw (nan-is b h) (quotient-nan (value a))
 
   by-left : (k : Float) (n : Bool) → isNaN a ≡ n → (n || isNaN b) ≡ true → ofFloats k a b ≡ quiet
   by-left k true n h = nan-left k n

@@ -13,10 +13,10 @@ use Rattle.encoder.proofs.check.Statement.{statement}
 use Rattle.encoder.proofs.check.Tie as tie
 
 abbrev Inv-loop : tie.InvT-loop
-Inv-loop image insts count room r₀ i₀ r i = Checked image (instsOf insts) count room r i
+Inv-loop forms image insts count room r₀ i₀ r i = Checked image (instsOf insts) count room r i
 
 abbrev μ-loop : tie.MeasureT-loop
-μ-loop image insts count room r₀ i₀ r i = count - i
+μ-loop forms image insts count room r₀ i₀ r i = count - i
 
 returns : tie.Need-returns Inv-loop μ-loop
 unfolding means

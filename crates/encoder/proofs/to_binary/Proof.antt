@@ -7,6 +7,9 @@ use borrow.Author.Needs.{needs}
 use Rattle.encoder.proofs.to_binary.Statement.{statement}
 use Rattle.encoder.proofs.to_binary.Tie as tie
 
+check-requires : tie.Need-check-requires
+check-requires c κs = c .before .form-table .ensures
+
 returns : tie.Need-returns
 unfolding means outputAfter
 returns c =
@@ -16,16 +19,14 @@ returns c =
 write-requires : tie.Need-write-requires
 unfolding means
 write-requires c κs =
-    let s = c .before .before .before .before .before .before .before .before in
-    let h = rw (c .before .before .answer .given .1) at (c .before .before .before .before .check .ensures (s .args .out .now) refl) in
+    let h = rw (c .before .before .before .answer .given .1) at (c .before .before .before .before .before .check .ensures (c .before .before .before .before .before .before .before .before .before .before .before .args .out .now) refl) in
     let a = accepted _ _ _ _ _ h in
-    (a .within, (a .well, a .fits))
+    (c .before .before .before .before .before .before .before .form-table .ensures, (a .within, (a .well, a .fits)))
 
 returns-2 : tie.Need-returns-2
 unfolding means outputAfter
 returns-2 c =
-    let s = c .before .before .before .before .before .before .before .before .before .before .before in
-    let h = rw (c .before .before .before .before .before .answer .given .1) at (c .before .before .before .before .before .before .before .check .ensures (s .args .out .now) refl) in
+    let h = rw (c .before .before .before .before .before .before .answer .given .1) at (c .before .before .before .before .before .before .before .before .check .ensures (c .before .before .before .before .before .before .before .before .before .before .before .before .before .before .args .out .now) refl) in
     (h, c .before .before .write .ensures ∙ rw (← h))
 
 pub to-binary-spec : {M : Type 1} → statement M
@@ -33,6 +34,7 @@ to-binary-spec =
     tie.close
     (tie.spec
     (λ c κs. search needs)
+    check-requires
     (λ c. search needs)
     (λ c. search needs)
     returns

@@ -10,15 +10,15 @@ use Rattle.encoder.proofs.write.Statement.{statement}
 use Rattle.encoder.proofs.write.Tie as tie
 
 abbrev Inv-loop : tie.InvT-loop
-Inv-loop image insts count out₀ at₀ i₀ out at i = Stored image (instsOf insts) count out₀ out at i
+Inv-loop forms image insts count out₀ at₀ i₀ out at i = Stored image (instsOf insts) count out₀ out at i
 
 abbrev μ-loop : tie.MeasureT-loop
-μ-loop image insts count out₀ at₀ i₀ out at i = count - i
+μ-loop forms image insts count out₀ at₀ i₀ out at i = count - i
 
 loop-holds : tie.Need-loop-holds Inv-loop μ-loop
 loop-holds c =
     let s = c .before .before .before in
-    record { within = s .pre .0; inside = omega arith; well = s .pre .1 .0; fits = omega arith; same = refl; gives = refl }
+    record { within = s .pre .1 .0; inside = omega arith; well = s .pre .1 .1 .0; fits = omega arith; same = refl; gives = refl }
 
 inst-at-requires : tie.Need-inst-at-requires Inv-loop μ-loop
 inst-at-requires c κs =
@@ -32,7 +32,7 @@ as-bytes-requires c κs =
     let e = c .before .inst-at .ensures in
     let t = c .before .before .loop-test .taken in
     let s = c .before .before .before .loop .inv in
-    (stored-well _ _ _ _ _ _ _ s _ t e, stored-fits _ _ _ _ _ _ _ s _ t e)
+    (c .before .before .before .before .before .before .before .pre .0, (stored-well _ _ _ _ _ _ _ s _ t e, stored-fits _ _ _ _ _ _ _ s _ t e))
 
 add-at : tie.Need-add-at Inv-loop μ-loop
 add-at c =

@@ -25,19 +25,19 @@ cast-op c = omega (arith, c .shared-slice-known2 .given (c .before .before .befo
 returns-2 : tie.Need-returns-2
 unfolding means readOperand
 returns-2 c =
-    sym (from-operand _ _ none (c .before .before .before .if1 .left) (is-form _ _ 1 (c .before .form .ensures) (c .match .keys1)))
+    sym (from-operand _ _ none (c .before .before .before .if1 .left) (is-form _ _ 45 (c .before .form .ensures) (c .match .keys1)))
 
 returns-3 : tie.Need-returns-3
 returns-3 c =
-    c .read-eight .ensures ∙ sym (from-operand _ _ eight (c .before .before .before .before .if1 .left) (is-form _ _ 2 (c .before .before .form .ensures) (c .before .match .keys2)))
+    c .read-eight .ensures ∙ sym (from-operand _ _ eight (c .before .before .before .before .if1 .left) (is-form _ _ 56 (c .before .before .form .ensures) (c .before .match .keys2)))
 
 returns-4 : tie.Need-returns-4
 returns-4 c =
-    c .read-one .ensures ∙ sym (from-operand _ _ one (c .before .before .before .before .if1 .left) (is-form _ _ 3 (c .before .before .form .ensures) (c .before .match .keys3)))
+    c .read-one .ensures ∙ sym (from-operand _ _ one (c .before .before .before .before .if1 .left) (is-form _ _ 49 (c .before .before .form .ensures) (c .before .match .keys3)))
 
 returns-5 : tie.Need-returns-5
 returns-5 c =
-    c .read-named .ensures ∙ sym (from-operand _ _ name (c .before .before .before .before .if1 .left) (is-form _ _ 4 (c .before .before .form .ensures) (c .before .match .keys4)))
+    c .read-named .ensures ∙ sym (from-operand _ _ name (c .before .before .before .before .if1 .left) (is-form _ _ 110 (c .before .before .form .ensures) (c .before .match .keys4)))
 
 returns-6 : tie.Need-returns-6
 unfolding means readOperand

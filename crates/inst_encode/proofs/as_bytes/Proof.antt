@@ -17,7 +17,7 @@ use Rattle.inst_encode.proofs.as_bytes.Tie as tie
 cast-out : tie.Need-cast-out
 cast-out c =
     let s = c .before .before .before in
-    let h = typ-byte (s .args .image .now) (s .args .inst) (s .pre .0) in
+    let h = typ-byte (s .args .image .now) (s .args .inst) (s .pre .1 .0) in
     record { fits = omega arith }
 
 slice-write-out : tie.Need-slice-write-out
@@ -28,29 +28,29 @@ put-number-requires : tie.Need-put-number-requires
 unfolding operandBytes bytesOf
 put-number-requires c κs =
     let s = c .before .before .before .before .before .before in
-    let n : length (asBytes (s .args .image .now) (s .args .inst)) ≡ 9 = ap length (bytes-are (s .args .image .now) (s .args .inst) eight (is-form _ _ 2 (c .before .before .form .ensures) (c .before .match .keys1))) in
+    let n : length (asBytes (s .args .image .now) (s .args .inst)) ≡ 9 = ap length (bytes-are (s .args .image .now) (s .args .inst) eight (is-form _ _ 56 (c .before .before .form .ensures) (c .before .match .keys1))) in
     simp length-set (omega arith)
 
 put-number-requires-2 : tie.Need-put-number-requires-2
 unfolding operandBytes bytesOf
 put-number-requires-2 c κs =
     let s = c .before .before .before .before .before .before in
-    let n : length (asBytes (s .args .image .now) (s .args .inst)) ≡ 2 = ap length (bytes-are (s .args .image .now) (s .args .inst) one (is-form _ _ 3 (c .before .before .form .ensures) (c .before .match .keys2))) in
+    let n : length (asBytes (s .args .image .now) (s .args .inst)) ≡ 2 = ap length (bytes-are (s .args .image .now) (s .args .inst) one (is-form _ _ 49 (c .before .before .form .ensures) (c .before .match .keys2))) in
     simp length-set (omega arith)
 
 put-named-requires : tie.Need-put-named-requires
 unfolding encodedSize headSize
 put-named-requires c κs =
     let s = c .before .before .before .before .before .before in
-    let e = is-form _ _ 4 (c .before .before .form .ensures) (c .before .match .keys3) in
-    let n = simp e at (size-is (s .args .image .now) (s .args .inst) (s .pre .0)) in
-    (name-inside (s .args .image .now) (s .args .inst) (s .pre .0) e, simp length-set (omega arith))
+    let e = is-form _ _ 110 (c .before .before .form .ensures) (c .before .match .keys3) in
+    let n = simp e at (size-is (s .args .image .now) (s .args .inst) (s .pre .1 .0)) in
+    (name-inside (s .args .image .now) (s .args .inst) (s .pre .1 .0) e, simp length-set (omega arith))
 
 add-result : tie.Need-add-result
 unfolding encodedSize headSize
 add-result c =
     let s = c .before .before .before .before .before .before .before .before .before in
-    let n = simp (is-form _ _ 4 (c .before .before .before .before .before .form .ensures) (c .before .before .before .before .match .keys3)) at (size-is (s .args .image .now) (s .args .inst) (s .pre .0)) in
+    let n = simp (is-form _ _ 110 (c .before .before .before .before .before .form .ensures) (c .before .before .before .before .match .keys3)) at (size-is (s .args .image .now) (s .args .inst) (s .pre .1 .0)) in
     omega arith
 
 same-length : tie.Need-same-length
@@ -60,7 +60,7 @@ returns : tie.Need-returns
 unfolding operandBytes bytesOf
 returns c =
     let s = c .before .before .before .before .before .before .before .before .before in
-    let a = bytes-are (s .args .image .now) (s .args .inst) eight (is-form _ _ 2 (c .before .before .before .before .before .form .ensures) (c .before .before .before .before .match .keys1)) in
+    let a = bytes-are (s .args .image .now) (s .args .inst) eight (is-form _ _ 56 (c .before .before .before .before .before .form .ensures) (c .before .before .before .before .match .keys1)) in
     (sym (ap length a), stored-first _ _ _ _ _ _ a (c .before .before .put-number .ensures))
 
 same-length-2 : tie.Need-same-length-2
@@ -70,7 +70,7 @@ returns-2 : tie.Need-returns-2
 unfolding operandBytes bytesOf
 returns-2 c =
     let s = c .before .before .before .before .before .before .before .before .before in
-    let a = bytes-are (s .args .image .now) (s .args .inst) one (is-form _ _ 3 (c .before .before .before .before .before .form .ensures) (c .before .before .before .before .match .keys2)) in
+    let a = bytes-are (s .args .image .now) (s .args .inst) one (is-form _ _ 49 (c .before .before .before .before .before .form .ensures) (c .before .before .before .before .match .keys2)) in
     (sym (ap length a), stored-first _ _ _ _ _ _ a (c .before .before .put-number2 .ensures))
 
 same-length-3 : tie.Need-same-length-3
@@ -80,8 +80,8 @@ returns-3 : tie.Need-returns-3
 unfolding operandBytes encodedSize headSize
 returns-3 c =
     let s = c .before .before .before .before .before .before .before .before .before in
-    let e = is-form _ _ 4 (c .before .before .before .before .before .form .ensures) (c .before .before .before .before .match .keys3) in
-    (sym (simp e at (size-is (s .args .image .now) (s .args .inst) (s .pre .0))), stored-first _ _ _ _ _ _ (bytes-are (s .args .image .now) (s .args .inst) name e) (c .before .before .put-named .ensures))
+    let e = is-form _ _ 110 (c .before .before .before .before .before .form .ensures) (c .before .before .before .before .match .keys3) in
+    (sym (simp e at (size-is (s .args .image .now) (s .args .inst) (s .pre .1 .0))), stored-first _ _ _ _ _ _ (bytes-are (s .args .image .now) (s .args .inst) name e) (c .before .before .put-named .ensures))
 
 returns-4 : tie.Need-returns-4
 returns-4 c =

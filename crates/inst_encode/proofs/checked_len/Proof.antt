@@ -20,7 +20,7 @@ add-result : tie.Need-add-result
 unfolding encodedSize headSize
 add-result c =
     let s = c .before .before .before .before .before in
-    let h = simp (is-form _ _ 2 (c .before .before .before .form .ensures) (c .match .keys1)) at (size-below (s .args .image .now) (s .args .inst) (sym (formed (c .before .before .before .before .before .args .image .now) (c .before .before .before .before .before .args .inst) _ _ (c .before .before .before .form .ensures) (c .before .before .has-form .ensures)) ∙ not-false _ (c .before .if1 .left))) in
+    let h = simp (is-form _ _ 56 (c .before .before .before .form .ensures) (c .match .keys1)) at (size-below (s .args .image .now) (s .args .inst) (sym (formed (c .before .before .before .before .before .args .image .now) (c .before .before .before .before .before .args .inst) _ _ (c .before .before .before .form .ensures) (c .before .before .has-form .ensures)) ∙ not-false _ (c .before .if1 .left))) in
     let g = s .good .0 in
     omega arith
 
@@ -28,7 +28,7 @@ add-result-2 : tie.Need-add-result-2
 unfolding encodedSize headSize
 add-result-2 c =
     let s = c .before .before .before .before .before in
-    let h = simp (is-form _ _ 3 (c .before .before .before .form .ensures) (c .match .keys2)) at (size-below (s .args .image .now) (s .args .inst) (sym (formed (c .before .before .before .before .before .args .image .now) (c .before .before .before .before .before .args .inst) _ _ (c .before .before .before .form .ensures) (c .before .before .has-form .ensures)) ∙ not-false _ (c .before .if1 .left))) in
+    let h = simp (is-form _ _ 49 (c .before .before .before .form .ensures) (c .match .keys2)) at (size-below (s .args .image .now) (s .args .inst) (sym (formed (c .before .before .before .before .before .args .image .now) (c .before .before .before .before .before .args .inst) _ _ (c .before .before .before .form .ensures) (c .before .before .has-form .ensures)) ∙ not-false _ (c .before .if1 .left))) in
     let g = s .good .0 in
     omega arith
 
@@ -36,7 +36,7 @@ add-result-3 : tie.Need-add-result-3
 unfolding encodedSize headSize
 add-result-3 c =
     let s = c .before .before .before .before .before in
-    let h = simp (is-form _ _ 4 (c .before .before .before .form .ensures) (c .match .keys3)) at (size-below (s .args .image .now) (s .args .inst) (sym (formed (c .before .before .before .before .before .args .image .now) (c .before .before .before .before .before .args .inst) _ _ (c .before .before .before .form .ensures) (c .before .before .has-form .ensures)) ∙ not-false _ (c .before .if1 .left))) in
+    let h = simp (is-form _ _ 110 (c .before .before .before .form .ensures) (c .match .keys3)) at (size-below (s .args .image .now) (s .args .inst) (sym (formed (c .before .before .before .before .before .args .image .now) (c .before .before .before .before .before .args .inst) _ _ (c .before .before .before .form .ensures) (c .before .before .has-form .ensures)) ∙ not-false _ (c .before .if1 .left))) in
     let g = s .good .0 in
     omega arith
 
@@ -50,15 +50,15 @@ add-result-4 c =
 
 returns-2 : tie.Need-returns-2
 unfolding headSize
-returns-2 c = len-is _ _ _ (sym (formed (c .before .before .before .before .before .args .image .now) (c .before .before .before .before .before .args .inst) _ _ (c .before .before .before .form .ensures) (c .before .before .has-form .ensures)) ∙ not-false _ (c .before .if1 .left)) (simp (is-form _ _ 2 (c .before .before .before .form .ensures) (c .match .keys1)))
+returns-2 c = len-is _ _ _ (sym (formed (c .before .before .before .before .before .args .image .now) (c .before .before .before .before .before .args .inst) _ _ (c .before .before .before .form .ensures) (c .before .before .has-form .ensures)) ∙ not-false _ (c .before .if1 .left)) (simp (is-form _ _ 56 (c .before .before .before .form .ensures) (c .match .keys1)))
 
 returns-3 : tie.Need-returns-3
 unfolding headSize
-returns-3 c = len-is _ _ _ (sym (formed (c .before .before .before .before .before .args .image .now) (c .before .before .before .before .before .args .inst) _ _ (c .before .before .before .form .ensures) (c .before .before .has-form .ensures)) ∙ not-false _ (c .before .if1 .left)) (simp (is-form _ _ 3 (c .before .before .before .form .ensures) (c .match .keys2)))
+returns-3 c = len-is _ _ _ (sym (formed (c .before .before .before .before .before .args .image .now) (c .before .before .before .before .before .args .inst) _ _ (c .before .before .before .form .ensures) (c .before .before .has-form .ensures)) ∙ not-false _ (c .before .if1 .left)) (simp (is-form _ _ 49 (c .before .before .before .form .ensures) (c .match .keys2)))
 
 returns-4 : tie.Need-returns-4
 unfolding headSize
-returns-4 c = len-is _ _ _ (sym (formed (c .before .before .before .before .before .args .image .now) (c .before .before .before .before .before .args .inst) _ _ (c .before .before .before .form .ensures) (c .before .before .has-form .ensures)) ∙ not-false _ (c .before .if1 .left)) (simp (is-form _ _ 4 (c .before .before .before .form .ensures) (c .match .keys3)))
+returns-4 c = len-is _ _ _ (sym (formed (c .before .before .before .before .before .args .image .now) (c .before .before .before .before .before .args .inst) _ _ (c .before .before .before .form .ensures) (c .before .before .has-form .ensures)) ∙ not-false _ (c .before .if1 .left)) (simp (is-form _ _ 110 (c .before .before .before .form .ensures) (c .match .keys3)))
 
 returns-5 : tie.Need-returns-5
 returns-5 c = len-is _ _ _ (sym (formed (c .before .before .before .before .before .args .image .now) (c .before .before .before .before .before .args .inst) _ _ (c .before .before .before .form .ensures) (c .before .before .has-form .ensures)) ∙ not-false _ (c .before .if1 .left)) (simp (no-operand [] (c .before .before .before .before .before .args .inst) _ _ (c .before .before .before .form .ensures) (c .match .rest .0 .0 .1) (c .match .rest .0 .1) (c .match .rest .1) .1))

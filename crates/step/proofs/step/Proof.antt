@@ -8,37 +8,37 @@ use mathlib.Core.List.{[]}
 use Rattle.inst.proofs.Facts.{typ-byte}
 use Rattle.inst.proofs.Laws.{never}
 use Rattle.machine.specs.Lookup.{noLabel}
-use Rattle.quick.specs.Known.{instOf, KnownAt}
+use Rattle.known.specs.Known.{instOf, KnownAt}
 use Rattle.tables.specs.Tables.{instsOf}
 use Rattle.lookup.specs.Walks.{lent}
-use Rattle.step.proofs.Keeping.{plain-formed, plain-no-lookup, learns-sized, learns, keeps-jump-sized, keeps-jump}
+use Rattle.known.proofs.Keeping.{plain-formed, plain-no-lookup, learns-sized, learns, keeps-jump-sized, keeps-jump}
 use Rattle.step.proofs.Whole.{found-target, name-lies, known-at, step-past, step-unformed, made-found, made-acts}
 use borrow.Author.Needs.{needs}
 use Rattle.step.proofs.step.Statement.{statement}
 use Rattle.step.proofs.step.Tie as tie
 
 returns : tie.Need-returns
-returns c = record { small = tt; sized = c .before .before .before .pre .2; listed = c .before .before .before .pre .3; tried = λ labels told. (record { does = step-past _ _ _ _ (c .before .before .before .pre .1) _ _ _ _ _ (c .before .before .before .pre .0) (c .if1 .taken); small = tt; kept = (refl, refl, refl) }, λ k. k) }
+returns c = record { small = tt; sized = c .before .before .before .pre .1 .2; listed = c .before .before .before .pre .1 .3; tried = λ labels told. (record { does = step-past _ _ _ _ (c .before .before .before .pre .1 .1) _ _ _ _ _ (c .before .before .before .pre .1 .0) (c .if1 .taken); small = tt; kept = (refl, refl, refl) }, λ k. k) }
 
 returns-2 : tie.Need-returns-2
-returns-2 c = record { small = tt; sized = c .before .before .before .before .before .pre .2; listed = c .before .before .before .before .before .pre .3; tried = λ labels told. (record { does = step-unformed _ _ _ _ (c .before .before .before .before .before .pre .1) _ _ _ _ _ (c .before .before .before .before .before .pre .0) (c .before .before .if1 .left) (sym (c .before .is-well-formed-at .ensures) ∙ not-true _ (c .if2 .taken)); small = tt; kept = (refl, refl, refl) }, λ k. k) }
+returns-2 c = record { small = tt; sized = c .before .before .before .before .before .pre .1 .2; listed = c .before .before .before .before .before .pre .1 .3; tried = λ labels told. (record { does = step-unformed _ _ _ _ (c .before .before .before .before .before .pre .1 .1) _ _ _ _ _ (c .before .before .before .before .before .pre .1 .0) (c .before .before .if1 .left) (sym (c .before .is-well-formed-at .ensures) ∙ not-true _ (c .if2 .taken)); small = tt; kept = (refl, refl, refl) }, λ k. k) }
 
 returns-3 : tie.Need-returns-3
 returns-3 c =
     let formed = sym (c .before .before .before .before .before .before .before .is-well-formed-at .ensures) ∙ not-false _ (c .before .before .before .before .before .before .if2 .left) in
-    record { small = tt; sized = c .before .before .before .before .before .before .before .before .before .before .before .pre .2; listed = c .before .before .before .before .before .before .before .before .before .before .before .pre .3; tried = λ labels told. (c .before .before .if4 .taken, name-lies _ (c .before .before .before .before .before .before .before .before .before .before .before .args .insts .now) (c .before .before .before .before .before .before .before .before .before .before .before .args .core .ip) formed (sym (c .before .before .before .before .looks-up .ensures) ∙ c .before .before .before .if3 .taken), (refl, refl), refl, refl, refl, refl, refl) }
+    record { small = tt; sized = c .before .before .before .before .before .before .before .before .before .before .before .pre .1 .2; listed = c .before .before .before .before .before .before .before .before .before .before .before .pre .1 .3; tried = λ labels told. (c .before .before .if4 .taken, name-lies _ (c .before .before .before .before .before .before .before .before .before .before .before .args .insts .now) (c .before .before .before .before .before .before .before .before .before .before .before .args .core .ip) formed (sym (c .before .before .before .before .looks-up .ensures) ∙ c .before .before .before .if3 .taken), (refl, refl), refl, refl, refl, refl, refl) }
 
 keep-jump-requires : tie.Need-keep-jump-requires
 keep-jump-requires c κs = omega (arith, typ-byte _ (instOf (c .before .before .before .before .before .before .before .before .before .before .before .args .insts .now) (c .before .before .before .before .before .before .before .before .before .before .before .args .core .ip)) (sym (c .before .before .before .before .before .before .before .is-well-formed-at .ensures) ∙ not-false _ (c .before .before .before .before .before .before .if2 .left)))
 
 execute-jump-requires : tie.Need-execute-jump-requires
-execute-jump-requires c κs = ((c .before .before .before .before .before .before .before .before .before .before .before .before .before .pre .0 .0, c .before .before .before .before .before .before .before .before .before .before .before .before .before .pre .0 .1, search needs), omega (arith, c .before .before .before .before .if4 .left), sym (c .before .before .before .before .before .before .looks-up .ensures) ∙ c .before .before .before .before .before .if3 .taken)
+execute-jump-requires c κs = ((c .before .before .before .before .before .before .before .before .before .before .before .before .before .pre .1 .0 .0, c .before .before .before .before .before .before .before .before .before .before .before .before .before .pre .1 .0 .1, search needs), omega (arith, c .before .before .before .before .if4 .left), sym (c .before .before .before .before .before .before .looks-up .ensures) ∙ c .before .before .before .before .before .if3 .taken)
 
 learn-requires : tie.Need-learn-requires
-learn-requires c κs = (c .before .before .before .before .before .before .before .before .before .pre .1, c .before .before .before .before .before .before .before .before .before .pre .2 .keys-long)
+learn-requires c κs = (c .before .before .before .before .before .before .before .before .before .pre .0, (c .before .before .before .before .before .before .before .before .before .pre .1 .1, c .before .before .before .before .before .before .before .before .before .pre .1 .2 .keys-long))
 
 execute-instruction-requires : tie.Need-execute-instruction-requires
-execute-instruction-requires c κs = ((c .before .before .before .before .before .before .before .before .before .before .before .before .before .before .pre .0 .0, c .before .before .before .before .before .before .before .before .before .before .before .before .before .before .pre .0 .1, search needs), sym (c .before .before .before .before .before .before .before .looks-up .ensures) ∙ c .before .before .before .before .before .before .if3 .left)
+execute-instruction-requires c κs = ((c .before .before .before .before .before .before .before .before .before .before .before .before .before .before .pre .1 .0 .0, c .before .before .before .before .before .before .before .before .before .before .before .before .before .before .pre .1 .0 .1, search needs), sym (c .before .before .before .before .before .before .before .looks-up .ensures) ∙ c .before .before .before .before .before .before .if3 .left)
 
 returns-4 : tie.Need-returns-4
 returns-4 c =
@@ -49,11 +49,11 @@ returns-4 c =
     let below = c .before .before .before .before .before .before .before .before .before .before .before .if1 .left in
     record {
       small = c .execute-jump .ensures 0 0 0 [] [] .small;
-      sized = keeps-jump-sized (c .before .before .before .before .before .before .before .before .before .before .before .before .before .before .pre .2) kept;
-      listed = keeps-jump (c .before .before .before .before .before .before .before .before .before .before .before .before .before .before .pre .2) kept (λ (key t i : ℕ). i * 4 + 3 < length xs) (c .before .before .before .before .before .before .before .before .before .before .before .before .before .before .pre .3) (λ h. omega (arith, below, c .before .before .before .before .before .before .before .before .before .before .before .before .before .before .pre .1));
+      sized = keeps-jump-sized (c .before .before .before .before .before .before .before .before .before .before .before .before .before .before .pre .1 .2) kept;
+      listed = keeps-jump (c .before .before .before .before .before .before .before .before .before .before .before .before .before .before .pre .1 .2) kept (λ (key t i : ℕ). i * 4 + 3 < length xs) (c .before .before .before .before .before .before .before .before .before .before .before .before .before .before .pre .1 .3) (λ h. omega (arith, below, c .before .before .before .before .before .before .before .before .before .before .before .before .before .before .pre .1 .1));
       tried = λ labels told. let finds = told (omega (arith, c .before .before .before .before .before .if4 .left)) in (
-        made-found _ xs labels (c .before .before .before .before .before .before .before .before .before .before .before .before .before .before .args .count) (c .before .before .before .before .before .before .before .before .before .before .before .before .before .before .pre .1) _ _ _ _ _ (c .before .before .before .before .before .before .before .before .before .before .before .before .before .before .pre .0) below formed _ _ _ _ _ finds (c .execute-jump .ensures (getD xs (ip * 4 + 1) 0) (getD xs (ip * 4 + 2) 0) (getD xs (ip * 4 + 3) 0) _ _),
-        λ k. keeps-jump (c .before .before .before .before .before .before .before .before .before .before .before .before .before .before .pre .2) kept (KnownAt (lent (c .before .before .before .before .before .before .before .before .before .before .before .before .before .before .args .image .now) (instsOf xs) labels (c .before .before .before .before .before .before .before .before .before .before .before .before .before .before .args .count)) xs) k (λ h. known-at _ xs labels _ (c .before .before .before .before .before .before .before .before .before .before .before .before .before .before .pre .1) ip below formed _ (λ l. sym finds ∙ found-target _ h)),
+        made-found _ xs labels (c .before .before .before .before .before .before .before .before .before .before .before .before .before .before .args .count) (c .before .before .before .before .before .before .before .before .before .before .before .before .before .before .pre .1 .1) _ _ _ _ _ (c .before .before .before .before .before .before .before .before .before .before .before .before .before .before .pre .1 .0) below formed _ _ _ _ _ finds (c .execute-jump .ensures (getD xs (ip * 4 + 1) 0) (getD xs (ip * 4 + 2) 0) (getD xs (ip * 4 + 3) 0) _ _),
+        λ k. keeps-jump (c .before .before .before .before .before .before .before .before .before .before .before .before .before .before .pre .1 .2) kept (KnownAt (lent (c .before .before .before .before .before .before .before .before .before .before .before .before .before .before .args .image .now) (instsOf xs) labels (c .before .before .before .before .before .before .before .before .before .before .before .before .before .before .args .count)) xs) k (λ h. known-at _ xs labels _ (c .before .before .before .before .before .before .before .before .before .before .before .before .before .before .pre .1 .1) ip below formed _ (λ l. sym finds ∙ found-target _ h)),
       );
     }
 
@@ -68,11 +68,11 @@ returns-5 c =
     let learnt = c .before .before .before .before .before .learn .ensures in
     record {
       small = c .execute-instruction .ensures noLabel 0 0 .small;
-      sized = learns-sized targets learnt (c .before .before .before .before .before .before .before .before .before .before .before .before .before .before .before .pre .2);
-      listed = learns targets learnt (λ (key t i : ℕ). i * 4 + 3 < length xs) (c .before .before .before .before .before .before .before .before .before .before .before .before .before .before .before .pre .3) (λ i t h. omega (arith, h .below, c .before .before .before .before .before .before .before .before .before .before .before .before .before .before .before .pre .1));
+      sized = learns-sized targets learnt (c .before .before .before .before .before .before .before .before .before .before .before .before .before .before .before .pre .1 .2);
+      listed = learns targets learnt (λ (key t i : ℕ). i * 4 + 3 < length xs) (c .before .before .before .before .before .before .before .before .before .before .before .before .before .before .before .pre .1 .3) (λ i t h. omega (arith, h .below, c .before .before .before .before .before .before .before .before .before .before .before .before .before .before .before .pre .1 .1));
       tried = λ labels told. (
-        made-acts _ xs labels (c .before .before .before .before .before .before .before .before .before .before .before .before .before .before .before .args .count) (c .before .before .before .before .before .before .before .before .before .before .before .before .before .before .before .pre .1) _ _ _ _ _ (c .before .before .before .before .before .before .before .before .before .before .before .before .before .before .before .pre .0) below formed _ _ _ _ (c .execute-instruction .ensures _ (getD xs (ip * 4 + 2) 0) (getD xs (ip * 4 + 3) 0)),
-        λ k. learns targets learnt (KnownAt (lent image (instsOf xs) labels (c .before .before .before .before .before .before .before .before .before .before .before .before .before .before .before .args .count)) xs) k (λ i t h. known-at image xs labels _ (c .before .before .before .before .before .before .before .before .before .before .before .before .before .before .before .pre .1) i (h .below) (plain-formed image xs i (h .plain)) t (λ l. never (sym (plain-no-lookup image xs i (h .plain)) ∙ l))),
+        made-acts _ xs labels (c .before .before .before .before .before .before .before .before .before .before .before .before .before .before .before .args .count) (c .before .before .before .before .before .before .before .before .before .before .before .before .before .before .before .pre .1 .1) _ _ _ _ _ (c .before .before .before .before .before .before .before .before .before .before .before .before .before .before .before .pre .1 .0) below formed _ _ _ _ (c .execute-instruction .ensures _ (getD xs (ip * 4 + 2) 0) (getD xs (ip * 4 + 3) 0)),
+        λ k. learns targets learnt (KnownAt (lent image (instsOf xs) labels (c .before .before .before .before .before .before .before .before .before .before .before .before .before .before .before .args .count)) xs) k (λ i t h. known-at image xs labels _ (c .before .before .before .before .before .before .before .before .before .before .before .before .before .before .before .pre .1 .1) i (h .below) (plain-formed image xs i (h .plain)) t (λ l. never (sym (plain-no-lookup image xs i (h .plain)) ∙ l))),
       );
     }
 

@@ -1,0 +1,39 @@
+-- What is kept of an instruction.
+use Prim.Native.Nat.{ℕ, _-_, _*_, _<_}
+use mathlib.Core.Path.{_≡_}
+use mathlib.Core.Bool.{Bool, true, cond, not, _&&_}
+use mathlib.Core.Logic.{_⊎_}
+use mathlib.Core.List.{List}
+use lib.Dec.{ltb, leb}
+use lib.ListN.{length, getD, set}
+use Rattle.inst.specs.Records.{wellFormed}
+use Rattle.known.specs.Known.{knownLimit, looksUp, instOf}
+
+-- the first byte of the instruction at an index, if the array has a slot for it
+pub record Keeps (keys : List ℕ) (i op : ℕ) (keys' : List ℕ) : Type 0 where
+  pub keys-are : keys' ≡ cond (ltb i knownLimit) (set keys i op) keys
+
+-- and the target that was found, if it fits 16 bits
+abbrev pub isKept : ℕ → ℕ → Bool
+isKept i found = ltb i knownLimit && (leb 3 found && ltb found 65539)
+
+pub record KeepsJump (keys targets : List ℕ) (i op found : ℕ) (keys' targets' : List ℕ) : Type 0 where
+  pub keys-are : keys' ≡ cond (isKept i found) (set keys i op) keys
+  pub targets-are : targets' ≡ cond (isKept i found) (set targets i (found - 3)) targets
+
+-- an instruction of the table xs that needs no lookup, with a well-formed record
+unfoldable pub isPlainAt : List ℕ → List ℕ → ℕ → Bool
+isPlainAt image xs i = not (looksUp (getD xs (i * 4) 0)) && wellFormed image (instOf xs i)
+
+pub record KeepsPlain (image xs keys : List ℕ) (i : ℕ) (keys' : List ℕ) : Type 0 where
+  pub keys-are : keys' ≡ cond (isPlainAt image xs i && ltb i knownLimit) (set keys i (getD xs (i * 4) 0)) keys
+
+-- each key is as before, or the first byte of such an instruction below the count
+pub record Learnt (image xs : List ℕ) (count key i : ℕ) : Type 0 where
+  pub below : i < count
+  pub plain : isPlainAt image xs i ≡ true
+  pub typ-is : getD xs (i * 4) 0 ≡ key
+
+pub record Learns (image xs : List ℕ) (count : ℕ) (keys keys' : List ℕ) : Type 0 where
+  pub long : length keys' ≡ length keys
+  pub each : (i : ℕ) → (getD keys' i 0 ≡ getD keys i 0) ⊎ Learnt image xs count (getD keys' i 0) i
