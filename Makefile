@@ -1,5 +1,5 @@
 # `make run` runs an image; `make test` is the whole of the tests; `make oracle` compares with the Rust and the host alone.
-.PHONY: run test oracle floats images mm labels odd host-rust bench staticlib record
+.PHONY: run test oracle floats images differences labels odd random stack mm host-rust bench staticlib record
 
 IMAGE ?= crates/runimage/stdin
 
@@ -7,7 +7,6 @@ IMAGE ?= crates/runimage/stdin
 MM_SOURCE ?= ../shared/docs/src/src
 
 RUSTC := rustc -O --edition 2021 -D warnings
-LIBS := -L native=target/staticlib --extern mm=target/original/libmm.rlib --extern mm_host=target/libmm_host.rlib
 
 run:
 	@mkdir -p target
@@ -19,7 +18,7 @@ test:
 	rt fmt --check
 	MM_SOURCE=$(MM_SOURCE) bin/test
 
-oracle: floats images mm labels odd
+oracle: floats images differences labels odd random stack mm
 
 floats:
 	rt staticlib float64_c
@@ -31,9 +30,11 @@ images:
 	$(RUSTC) -o target/oracle-images oracle/images.rs
 	target/oracle-images bin/runimage oracle/images.txt
 
-# the archives of the host's calls, and the Rust crate over them
-ARCHIVES := target/staticlib/libhost.a target/staticlib/liblabel_host.a
-LINKED := -L native=target/staticlib -l static=host -l static=label_host
+# the archives of the host's calls, and what links them
+ARCHIVES := target/staticlib/libmm_host.a target/staticlib/liblabel_host.a
+CALLS := -L native=target/staticlib -l static=mm_host
+RECORDS := -L native=target/staticlib -l static=label_host
+ORIGINAL := --extern mm=target/original/libmm.rlib
 
 staticlib: $(ARCHIVES)
 
@@ -41,7 +42,7 @@ target/staticlib/lib%.a: $(shell find crates -name '*.rt' -o -name '*.antt')
 	rt staticlib $*
 
 target/libmm_host.rlib: $(ARCHIVES) $(wildcard host-rust/src/*.rs)
-	$(RUSTC) --crate-type rlib --crate-name mm_host $(LINKED) -o $@ host-rust/src/lib.rs
+	$(RUSTC) --crate-type rlib --crate-name mm_host --cfg 'feature="alloc"' $(CALLS) -o $@ host-rust/src/lib.rs
 
 # The original, its source unchanged: only its root file has the probe behind it, since the state is private there.
 target/original/libmm.rlib:
@@ -55,37 +56,72 @@ target/original/libmm.rlib:
 mm:
 	@if [ -e $(MM_SOURCE)/mm.rs ]; then $(MAKE) --no-print-directory compared; \
 	elif [ -n "$$CI" ]; then echo "mm: no mm.rs in MM_SOURCE=$(MM_SOURCE)"; exit 1; \
-	else echo "mm: no mm.rs in MM_SOURCE=$(MM_SOURCE), so nothing is compared here; crate replay stands in"; fi
+	else echo "mm: no mm.rs in MM_SOURCE=$(MM_SOURCE), so nothing was compared with the Rust; crate replay stands in"; fi
 
 SEED ?= 1
 IMAGES ?= 120000
 
 .PHONY: compared
-compared: target/libmm_host.rlib target/original/libmm.rlib
-	$(RUSTC) $(LIBS) -o target/oracle-mm oracle/mm/main.rs
-	$(RUSTC) $(LIBS) -o target/oracle-differences oracle/mm/differences.rs
+compared: $(ARCHIVES) target/original/libmm.rlib
+	$(RUSTC) $(CALLS) $(ORIGINAL) -o target/oracle-mm oracle/mm/main.rs
+	$(RUSTC) $(ORIGINAL) -o target/oracle-differences-mm oracle/mm/differences.rs
 	target/oracle-mm $(SEED) $(IMAGES) 3>&1 > /dev/null 2> /dev/null
-	target/oracle-differences docs/DIFFERENCES.md 3>&1 > /dev/null 2> /dev/null
+	target/oracle-differences-mm docs/DIFFERENCES.md 3>&1 > /dev/null 2> /dev/null
 
-# the calls over label records beside those over number slices
-labels: target/libmm_host.rlib
-	$(RUSTC) -L native=target/staticlib --extern mm_host=target/libmm_host.rlib -o target/oracle-labels oracle/labels.rs
+# what docs/DIFFERENCES.md says of us; `compared` has what it says of the Rust
+differences: $(ARCHIVES)
+	$(RUSTC) $(CALLS) -o target/oracle-differences oracle/differences.rs
+	target/oracle-differences docs/DIFFERENCES.md
+
+# the calls over label records beside those over byte slices
+labels: $(ARCHIVES)
+	$(RUSTC) $(CALLS) $(RECORDS) -o target/oracle-labels oracle/labels.rs
 	target/oracle-labels $(SEED) 25000
 
-# no byte outside what is lent, by valgrind where there is one
+# a program once more under valgrind, where there is one
+define under_valgrind
+@if command -v valgrind > /dev/null; then echo "valgrind $(1)"; valgrind --quiet --error-exitcode=1 $(1); \
+else echo "$(1): there is no valgrind, so memory wasn't checked by it, only by pages that may not be touched"; fi
+endef
+
+# no byte outside what is lent, at odd addresses and lengths; on random bytes
 odd: $(ARCHIVES)
-	$(RUSTC) $(LINKED) -o target/oracle-odd oracle/odd.rs
-	if command -v valgrind > /dev/null; then valgrind --quiet --error-exitcode=1 target/oracle-odd; else target/oracle-odd; fi
+	$(RUSTC) $(CALLS) $(RECORDS) -o target/oracle-odd oracle/odd.rs
+	target/oracle-odd
+	$(call under_valgrind,target/oracle-odd)
+
+random: $(ARCHIVES)
+	$(RUSTC) $(CALLS) -o target/oracle-random oracle/random.rs
+	target/oracle-random $(SEED) 1000000
+	$(call under_valgrind,target/oracle-random $(SEED) 5000)
+
+# the stack that each call needs, and that docs/HOST.md says so
+stack: $(ARCHIVES)
+	$(RUSTC) $(CALLS) $(RECORDS) -o target/oracle-stack oracle/stack.rs
+	target/oracle-stack docs/HOST.md
 
 # the data of crate replay, made anew
 record: target/original/libmm.rlib
-	$(RUSTC) --extern mm=target/original/libmm.rlib -o target/oracle-record oracle/mm/record.rs
+	$(RUSTC) $(ORIGINAL) -o target/oracle-record oracle/mm/record.rs
 	target/oracle-record 20261116 500 3> crates/replay/stdin > /dev/null 2> /dev/null
 
-host-rust: $(ARCHIVES)
-	cd host-rust && CARGO_TARGET_DIR=../target/host-rust cargo test --offline --quiet
-	cd host-rust && CARGO_TARGET_DIR=../target/host-rust cargo run --offline --quiet --example round ../crates/runimage/stdin | grep -x 'halted after 6 steps'
-	cd host-rust && CARGO_TARGET_DIR=../target/host-rust cargo doc --offline --quiet
+# The crate with and without its owning layer, and its example.
+CARGO := cd host-rust && RUSTFLAGS='-D warnings' RUSTDOCFLAGS='-D warnings' CARGO_TARGET_DIR=../target/host-rust cargo --offline --quiet
+
+host-rust: $(ARCHIVES) host-c
+	$(CARGO) test
+	$(CARGO) test --no-default-features
+	$(CARGO) run --example round ../crates/runimage/stdin | grep -x 'halted after 6 steps'
+	$(CARGO) doc
+
+# The example in C: it prints what runimage prints, so the oracle's images are tried on it. The header is read as C++ too.
+.PHONY: host-c
+host-c: $(ARCHIVES)
+	$(CC) -std=c11 -O2 -Wall -Wextra -Werror -Iinclude -o target/round host-c/round.c target/staticlib/libmm_host.a
+	target/round crates/runimage/stdin | cmp - crates/runimage/stdout
+	$(RUSTC) -o target/oracle-images oracle/images.rs
+	target/oracle-images target/round oracle/images.txt
+	if command -v g++ > /dev/null; then g++ -std=c++11 -Wall -Wextra -Werror -fsyntax-only -x c++ include/mm.h; fi
 
 # Eight builds, each with more bytes before its code: the place of a loop in memory moves its speed.
 # The report goes to standard error: the original prints to standard output.
@@ -93,5 +129,8 @@ PADS := 0 16 32 48 64 80 96 112
 
 bench: target/libmm_host.rlib target/original/libmm.rlib
 	cc -O3 -Wall -Wextra -Werror -c -o target/interpreter.o bench/interpreter.c
-	for pad in $(PADS); do PAD=$$pad $(RUSTC) $(LIBS) -C link-arg=target/interpreter.o -o target/bench-$$pad bench/main.rs || exit 1; done
+	for pad in $(PADS); do \
+	    PAD=$$pad $(RUSTC) $(RECORDS) $(ORIGINAL) --extern mm_host=target/libmm_host.rlib -C link-arg=target/interpreter.o \
+	        -o target/bench-$$pad bench/main.rs || exit 1; \
+	done
 	target/bench-0 report 10 7 docs/benchmarks.svg $(PADS:%=target/bench-%)

@@ -2,33 +2,42 @@
 use crate::engines;
 use crate::images::{images, round, Program};
 use crate::measures::{least, tell};
-use mm_host::labels::{load, run, Tables};
-use mm_host::{Ending, Machine};
+use crate::records::{load, run, Label, Machine};
+use mm_host::layout::{INSTS_SIZE, LABEL_MAX};
 use std::time::Instant;
 
-fn loaded(image: &[u8]) -> (Tables, u64, Machine) {
-    let (mut tables, mut machine) = (Tables::new(), Machine::empty());
-    let count = load(image, &mut tables, &mut machine).expect("it loads");
-    (tables, count, machine)
+// a loaded program: its tables and count
+struct Loaded {
+    insts: Vec<u8>,
+    labels: Vec<Label>,
+    count: u64,
+}
+
+fn loaded(image: &[u8]) -> (Loaded, Box<Machine>) {
+    let none = Label { start: 0, len: 0, target: 0, next: 0 };
+    let (mut insts, mut labels, mut machine) = (vec![0; INSTS_SIZE], vec![none; LABEL_MAX + 1], Box::new(Machine::empty()));
+    let answer = load(image, &mut insts, &mut labels, &mut machine);
+    assert_eq!(answer.0, 0, "it loads");
+    (Loaded { insts, labels, count: answer.1 }, machine)
 }
 
 // ns a step in place, and the machine that it leaves
-fn in_place(image: &[u8], steps: u64) -> (f64, Machine) {
-    let (tables, count, mut machine) = loaded(image);
+fn in_place(image: &[u8], steps: u64) -> (f64, Box<Machine>) {
+    let (Loaded { insts, labels, count }, mut machine) = loaded(image);
     let start = Instant::now();
-    let ran = run(image, &tables, count, &mut machine, steps, &mut []);
+    let ran = run(image, &insts, &labels, count, &mut machine, steps, &mut []);
     let elapsed = start.elapsed().as_nanos() as f64;
-    assert_eq!((ran.ending, ran.steps), (Ending::Limit, steps));
+    assert_eq!((ran.0, ran.1), (1, steps), "it ends by the limit");
     (elapsed / steps as f64, machine)
 }
 
 // ns of a run of so many steps at most, again and again on one machine
 fn short_run(image: &[u8], limit: u64) -> f64 {
-    let (tables, count, mut machine) = loaded(image);
+    let (Loaded { insts, labels, count }, mut machine) = loaded(image);
     let runs = 20_000;
     let start = Instant::now();
     for _ in 0..runs {
-        run(image, &tables, count, &mut machine, limit, &mut []);
+        run(image, &insts, &labels, count, &mut machine, limit, &mut []);
     }
     start.elapsed().as_nanos() as f64 / runs as f64
 }
@@ -39,7 +48,7 @@ pub fn runs(steps: u64, rounds: usize) {
         let ns = least(rounds, || {
             let (core, left) = engines::ours(&image, steps, &mut []);
             let (here, same) = in_place(&image, steps);
-            assert!(left == same, "they leave other machines");
+            assert!(left.as_bytes()[..] == same.bytes(), "they leave other machines");
             [core, here]
         });
         tell(&format!("records: {name}"), &ns);

@@ -9,6 +9,8 @@ mod images;
 mod labels;
 mod measures;
 mod picture;
+#[path = "../oracle/records.rs"]
+mod records;
 mod report;
 
 std::arch::global_asm!(

@@ -2,7 +2,6 @@
 use crate::engines;
 use crate::images::{dumps, images, round, straight, Program};
 use crate::labels;
-use mm_host::Tables;
 
 pub fn tell(name: &str, numbers: &[f64]) {
     let told: Vec<String> = numbers.iter().map(|n| n.to_string()).collect();
@@ -27,7 +26,7 @@ fn long_runs(steps: u64, rounds: usize) {
         });
         tell(&format!("run: {name}"), &ns);
     }
-    let mut room = vec![1; steps as usize / 3 + 1];
+    let mut room = vec![1; 8 * (steps as usize / 3 + 1)];
     let image = dumps().0;
     tell("dumps", &least(rounds, || [engines::ours(&image, steps, &mut room).0]));
 }
@@ -44,8 +43,8 @@ fn short_runs(rounds: usize) {
 fn straight_code(rounds: usize) {
     let many = 1_000;
     let image = straight(many).0;
-    let mut tables = Tables::new();
-    let ns = least(50 * rounds, || engines::once(&image, &mut tables));
+    let mut memory = engines::Memory::new();
+    let ns = least(50 * rounds, || engines::once(&image, &mut memory));
     tell("straight", &ns.map(|n| n / many as f64));
 }
 
@@ -54,11 +53,12 @@ fn load_and_encode(rounds: usize) {
     let nops = (0..4_000).fold(Program::started(), |p, _| p.op(0));
     for (name, Program(image)) in [("straight code", straight(1_500)), ("400 labels", Program::started().labels(400)), ("4,000 NOPs", nops)]
     {
-        let (mut tables, l) = engines::loaded(&image);
-        let [rust, ours] = least(100 * rounds, || engines::loads(&image, &mut tables));
-        tell(&format!("load, {name}"), &[rust, ours, image.len() as f64, l.count as f64]);
+        let mut memory = engines::Memory::new();
+        let count = memory.load(&image).0.count() as f64;
+        let [rust, ours] = least(100 * rounds, || engines::loads(&image, &mut memory));
+        tell(&format!("load, {name}"), &[rust, ours, image.len() as f64, count]);
         let [rust, ours] = least(100 * rounds, || engines::encodes(&image));
-        tell(&format!("encode, {name}"), &[rust, ours, image.len() as f64, l.count as f64]);
+        tell(&format!("encode, {name}"), &[rust, ours, image.len() as f64, count]);
     }
 }
 

@@ -1,13 +1,18 @@
-// Links the proved archives: libhost.a and liblabel_host.a in the folder that MM_HOST_LIB names, or in ../target/staticlib, where `make staticlib` writes them.
+// Links the proved archive: libmm_host.a in the folder that MM_HOST_LIB names, or in ../target/staticlib, where `make staticlib` writes it.
+use std::env;
+use std::path::{Path, PathBuf};
+
 fn main() {
-    let folder = std::env::var("MM_HOST_LIB").unwrap_or_else(|_| {
-        let here = std::env::var("CARGO_MANIFEST_DIR").expect("cargo names the crate's folder");
-        format!("{here}/../target/staticlib")
-    });
-    println!("cargo:rustc-link-search=native={folder}");
-    println!("cargo:rustc-link-lib=static=host");
-    println!("cargo:rustc-link-lib=static=label_host");
     println!("cargo:rerun-if-env-changed=MM_HOST_LIB");
-    println!("cargo:rerun-if-changed={folder}/libhost.a");
-    println!("cargo:rerun-if-changed={folder}/liblabel_host.a");
+    let folder = env::var_os("MM_HOST_LIB").map_or_else(default_folder, PathBuf::from);
+    let archive = folder.join("libmm_host.a");
+    println!("cargo:rerun-if-changed={}", archive.display());
+    assert!(archive.is_file(), "{} isn't there: run `make staticlib`, or name the archive's folder in MM_HOST_LIB", archive.display());
+    println!("cargo:rustc-link-search=native={}", folder.display());
+    println!("cargo:rustc-link-lib=static=mm_host");
+}
+
+fn default_folder() -> PathBuf {
+    let here = env::var_os("CARGO_MANIFEST_DIR").expect("cargo names the crate's folder");
+    Path::new(&here).join("../target/staticlib")
 }

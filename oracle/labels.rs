@@ -1,13 +1,17 @@
-// The calls over label records and a machine in place beside those over number slices, which mm/main.rs holds to the Rust: the same
+// The calls over label records and a machine in place beside those over byte slices, which mm/main.rs holds to the Rust: the same
 // images are loaded by both and run in the same pieces, many of one step; after each call all that was lent and answered is compared.
 // Usage: oracle-labels [SEED] [IMAGES]
 // the comparison with the Rust has more of it
 #[allow(dead_code)]
 #[path = "mm/images.rs"]
 mod images;
+mod lent;
+mod records;
 
 use images::Random;
-use mm_host::{labels, Label, Machine, Number, Tables};
+use lent::layout::*;
+use lent::{put_number, sys, Program};
+use records::Label;
 
 #[derive(Default)]
 struct Report {
@@ -22,48 +26,88 @@ struct Report {
 const STEPS: u64 = 400;
 const WANTED: u64 = 1_000_000;
 
-// Every number of the tables, and whatever the lengths leave over.
-fn same_tables(core: &Tables, records: &labels::Tables) -> bool {
-    let numbers = records.labels.iter().flat_map(|l| [l.start, l.len, l.target, l.next]);
-    core.insts == records.insts && numbers.eq(core.labels[..4 * records.labels.len()].iter().copied())
+// The tables of the calls over label records.
+#[derive(Clone, PartialEq)]
+struct Tables {
+    insts: Vec<u8>,
+    labels: Vec<Label>,
 }
 
-// Both forms of what is lent, with the same numbers in it before the load.
+// Every byte of the tables, and whatever the lengths leave over.
+fn same_tables(core: &Program, records: &Tables) -> bool {
+    let bytes = records.labels.iter().flat_map(Label::bytes);
+    core.insts == records.insts && bytes.eq(core.labels[..RECORD_SIZE * records.labels.len()].iter().copied())
+}
+
+// Both forms of what is lent, with the same bytes in it before the load.
 struct Both<'a> {
-    image: &'a [u8],
-    core: Tables,
-    records: labels::Tables,
-    count: u64,
+    core: Program<'a>,
+    records: Tables,
+}
+
+// The machine in both forms.
+struct Machines {
+    core: lent::Machine,
+    in_place: Box<records::Machine>,
+}
+
+impl Machines {
+    fn are_alike(&self) -> bool {
+        self.core.0 == self.in_place.bytes()
+    }
+
+    // The number of that place in both.
+    fn set(&mut self, at: usize, number: u64) {
+        put_number(&mut self.core.0, at, number);
+        let m = &mut self.in_place;
+        *match at {
+            HEIGHT_AT => &mut m.height,
+            CALL_HEIGHT_AT => &mut m.call_height,
+            _ => &mut m.ip,
+        } = number;
+    }
+}
+
+// A machine with something in each number: a load has to replace it.
+fn used() -> Machines {
+    let in_place = Box::new(records::Machine { height: 3, flags: 5, ip: 11, halted: true, ..records::Machine::empty() });
+    Machines { core: lent::Machine(in_place.bytes()), in_place }
 }
 
 impl<'a> Both<'a> {
-    // Both loads: what they refuse, or both and the fresh machine.
-    fn load(image: &'a [u8], random: &mut Random) -> Result<Result<(Both<'a>, Machine), Number>, String> {
-        let (insts, many) = (16_384 - usize::from(random.one_in(16)) + random.below(4) as usize, 513 - usize::from(random.one_in(16)));
-        let mut core = Tables { insts: vec![7; insts], labels: vec![9; 4 * many] };
-        let mut records = labels::Tables { insts: vec![7; insts], labels: vec![Label { start: 9, len: 9, target: 9, next: 9 }; many] };
-        let mut machine = Machine { height: 3, flags: 5, ip: 11, halted: true, ..Machine::empty() };
-        let before = machine.clone();
-        let loaded = mm_host::load(image, &mut core);
-        let answer = labels::load(image, &mut records, &mut machine);
-        let fresh = loaded.as_ref().map_or(&before, |l| &l.machine);
-        if answer != loaded.as_ref().map(|l| l.count).map_err(|n| *n) || machine != *fresh || !same_tables(&core, &records) {
-            return Err(format!("the load: {:?}, by records {answer:?}", loaded.map(|l| l.count)));
+    // Both loads: None where they refuse, or both and the fresh machine.
+    fn load(image: &'a [u8], random: &mut Random) -> Result<Option<(Both<'a>, Machines)>, String> {
+        let insts = INSTS_SIZE - usize::from(random.one_in(16)) + random.below(40) as usize;
+        let many = 513 - usize::from(random.one_in(16));
+        let mut core = Program { image, insts: vec![7; insts], labels: vec![9; RECORD_SIZE * many], count: 0 };
+        let nine = 0x0909_0909_0909_0909;
+        let mut records = Tables { insts: vec![7; insts], labels: vec![Label { start: nine, len: nine, target: nine, next: nine }; many] };
+        let (mut machines, before) = (used(), used());
+        let loaded = sys::load(image, &mut core.insts, &mut core.labels, &mut machines.core.0);
+        let answer = records::load(image, &mut records.insts, &mut records.labels, &mut machines.in_place);
+        let refused = loaded.number != 0;
+        if (answer.0, answer.1) != (loaded.number, loaded.count) || !machines.are_alike() || !same_tables(&core, &records) {
+            return Err(format!("the load: {loaded:?}, by records {} and {}", answer.0, answer.1));
         }
-        Ok(answer.map(|count| (Both { image, core, records, count }, machine)))
+        if refused && machines.core != before.core {
+            return Err("a refused load wrote to the machine".to_string());
+        }
+        core.count = loaded.count;
+        Ok((!refused).then_some((Both { core, records }, machines)))
     }
 
     // A number that no load leaves there, in the label table of both or in the machine.
-    fn damage(&mut self, machine: &mut Machine, random: &mut Random) {
+    fn damage(&mut self, machines: &mut Machines, random: &mut Random) {
         let number = if random.one_in(2) { random.below(1_030) } else { random.next() };
         match random.below(8) {
-            0 => machine.height = number,
-            1 => machine.call_height = number,
-            2 => machine.ip = number,
-            3 => self.count = number,
+            0 => machines.set(HEIGHT_AT, number),
+            1 => machines.set(CALL_HEIGHT_AT, number),
+            2 => machines.set(POINTER_AT, number),
+            3 => self.core.count = number,
             _ => {
-                let at = random.below(4 * (self.count + 1)).min(self.core.labels.len() as u64 - 1) as usize;
-                self.core.labels[at] = number;
+                let last = self.core.labels.len() / NUMBER_SIZE - 1;
+                let at = (random.below(4 * (self.core.count + 1)) as usize).min(last);
+                put_number(&mut self.core.labels, NUMBER_SIZE * at, number);
                 let l = &mut self.records.labels[at / 4];
                 *[&mut l.start, &mut l.len, &mut l.target, &mut l.next][at % 4] = number;
             }
@@ -71,24 +115,24 @@ impl<'a> Both<'a> {
     }
 
     // Both in the same pieces; a trap is tried twice.
-    fn runs(&self, mut ours: Machine, random: &mut Random, report: &mut Report) -> Result<(), String> {
-        let (mut in_place, mut steps, mut tries) = (ours.clone(), 0, 0);
+    fn runs(&self, machines: &mut Machines, random: &mut Random, report: &mut Report) -> Result<(), String> {
+        let (mut steps, mut tries) = (0, 0);
         for _ in 0..STEPS {
             let limit = if random.one_in(4) { random.below(40) } else { 1 };
-            let mut dumps = vec![17; random.below(4) as usize];
+            let mut dumps = vec![17; random.below(32) as usize];
             let mut filled = dumps.clone();
-            let ran = mm_host::run(self.image, &self.core, self.count, &mut ours, limit, &mut dumps);
-            let answer = labels::run(self.image, &self.records, self.count, &mut in_place, limit, &mut filled);
+            let ran = self.core.run(&mut machines.core, limit, &mut dumps);
+            let Tables { insts, labels } = &self.records;
+            let answer = records::run(self.core.image, insts, labels, self.core.count, &mut machines.in_place, limit, &mut filled);
             report.calls += 1;
             steps += ran.steps;
-            if answer != ran || in_place != ours || filled != dumps {
-                return Err(format!(
-                    "after {steps} steps, limit {limit}: {ran:?}, in place {answer:?}, machines alike: {}",
-                    in_place == ours
-                ));
+            let alike = machines.are_alike();
+            if (answer.0, answer.1, answer.2) != (ran.ending, ran.steps, ran.dumped) || !alike || filled != dumps {
+                let in_place = [answer.0, answer.1, answer.2];
+                return Err(format!("after {steps} steps, limit {limit}: {ran:?}, in place {in_place:?}, machines alike: {alike}"));
             }
-            tries += u64::from(matches!(ran.ending, mm_host::Ending::Number(n) if n != Number(33)));
-            if ours.halted || tries == 2 || steps >= STEPS {
+            tries += u64::from(ran.ending > 1 && ran.ending != 33);
+            if machines.core.is_halted() || tries == 2 || steps >= STEPS {
                 break;
             }
         }
@@ -99,20 +143,21 @@ impl<'a> Both<'a> {
 
 fn compare(image: &[u8], random: &mut Random, report: &mut Report) -> Result<(), String> {
     report.images += 1;
-    let (mut both, mut machine) = match Both::load(image, random)? {
-        Ok(both) => both,
-        Err(_) => {
-            report.refused += 1;
-            return Ok(());
-        }
+    let Some((mut both, mut machines)) = Both::load(image, random)? else {
+        report.refused += 1;
+        return Ok(());
     };
     if random.one_in(8) {
         report.ill += 1;
-        both.damage(&mut machine, random);
+        both.damage(&mut machines, random);
     }
-    both.runs(machine, random, report)?;
-    let untouched = same_tables(&both.core, &both.records);
-    untouched.then_some(()).ok_or("a run wrote to a table".to_string())
+    let before = (both.core.insts.clone(), both.core.labels.clone(), both.records.clone());
+    both.runs(&mut machines, random, report)?;
+    let core_kept = (&both.core.insts, &both.core.labels) == (&before.0, &before.1);
+    if !core_kept || both.records != before.2 {
+        return Err(format!("a run {} wrote to a table", if core_kept { "over records" } else { "over byte slices" }));
+    }
+    Ok(())
 }
 
 fn main() {

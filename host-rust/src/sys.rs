@@ -1,20 +1,19 @@
-//! The archives' calls, and the only unsafe code of this crate.
+//! The archive's calls, and the only unsafe code of this crate. This file needs nothing but core: the oracle takes it in as it is.
 //!
 //! Each function here is safe: its arguments are references, so that every address is valid for its length, what is written is lent exclusively and nothing
-//! overlaps. The archives test everything else themselves, for slices of any length and contents. A [`Machine`] has their layout, and its `halted`, a bool,
-//! is 0 or 1, as they rely on.
+//! overlaps. The archive tests everything else itself, for byte slices of any address, length and contents.
 
-use crate::layout::{Label, Machine};
-
-/// What `mm_load` and `mm_load_labels` answer.
+/// What `mm_load` answers.
 #[repr(C)]
+#[derive(Clone, Copy, Debug, PartialEq, Eq)]
 pub struct Loaded {
     pub number: u64,
     pub count: u64,
 }
 
-/// What `mm_run` and `mm_run_in_place` answer.
+/// What `mm_run` answers.
 #[repr(C)]
+#[derive(Clone, Copy, Debug, PartialEq, Eq)]
 pub struct Ran {
     pub ending: u64,
     pub steps: u64,
@@ -23,98 +22,56 @@ pub struct Ran {
 
 /// What `mm_encode` answers.
 #[repr(C)]
+#[derive(Clone, Copy, Debug, PartialEq, Eq)]
 pub struct Encoded {
     pub number: u64,
     pub size: u64,
 }
 
-/// A machine as it is lent: four slices.
-pub struct Parts<'a> {
-    pub stack: &'a mut [u64],
-    pub calls: &'a mut [u64],
-    pub memory: &'a mut [u8],
-    pub numbers: &'a mut [u64],
-}
-
 mod c {
-    use super::{Encoded, Label, Loaded, Machine, Ran};
+    use super::{Encoded, Loaded, Ran};
 
     extern "C" {
         pub fn mm_load(
             image: *const u8,
             image_len: usize,
-            insts: *mut u64,
+            insts: *mut u8,
             insts_len: usize,
-            labels: *mut u64,
+            labels: *mut u8,
             labels_len: usize,
-            stack: *mut u64,
-            stack_len: usize,
-            calls: *mut u64,
-            calls_len: usize,
-            memory: *mut u8,
-            memory_len: usize,
-            numbers: *mut u64,
-            numbers_len: usize,
+            machine: *mut u8,
+            machine_len: usize,
         ) -> Loaded;
 
         pub fn mm_run(
             image: *const u8,
             image_len: usize,
-            insts: *const u64,
+            insts: *const u8,
             insts_len: usize,
-            labels: *const u64,
+            labels: *const u8,
             labels_len: usize,
             count: u64,
-            stack: *mut u64,
-            stack_len: usize,
-            calls: *mut u64,
-            calls_len: usize,
-            memory: *mut u8,
-            memory_len: usize,
-            numbers: *mut u64,
-            numbers_len: usize,
+            machine: *mut u8,
+            machine_len: usize,
             limit: u64,
-            dumps: *mut u64,
+            dumps: *mut u8,
             dumps_len: usize,
         ) -> Ran;
 
         pub fn mm_encode(
             image: *const u8,
             image_len: usize,
-            insts: *const u64,
+            insts: *const u8,
             insts_len: usize,
             count: u64,
             out: *mut u8,
             out_len: usize,
         ) -> Encoded;
-
-        pub fn mm_load_labels(
-            image: *const u8,
-            image_len: usize,
-            insts: *mut u64,
-            insts_len: usize,
-            labels: *mut Label,
-            labels_len: usize,
-            machine: *mut Machine,
-        ) -> Loaded;
-
-        pub fn mm_run_in_place(
-            image: *const u8,
-            image_len: usize,
-            insts: *const u64,
-            insts_len: usize,
-            labels: *const Label,
-            labels_len: usize,
-            count: u64,
-            machine: *mut Machine,
-            limit: u64,
-            dumps: *mut u64,
-            dumps_len: usize,
-        ) -> Ran;
     }
 }
 
-pub fn load(image: &[u8], insts: &mut [u64], labels: &mut [u64], m: Parts) -> Loaded {
+/// Loads an image into both tables and makes the machine the fresh one.
+pub fn load(image: &[u8], insts: &mut [u8], labels: &mut [u8], machine: &mut [u8]) -> Loaded {
     // SAFETY: see the module.
     unsafe {
         c::mm_load(
@@ -124,19 +81,14 @@ pub fn load(image: &[u8], insts: &mut [u64], labels: &mut [u64], m: Parts) -> Lo
             insts.len(),
             labels.as_mut_ptr(),
             labels.len(),
-            m.stack.as_mut_ptr(),
-            m.stack.len(),
-            m.calls.as_mut_ptr(),
-            m.calls.len(),
-            m.memory.as_mut_ptr(),
-            m.memory.len(),
-            m.numbers.as_mut_ptr(),
-            m.numbers.len(),
+            machine.as_mut_ptr(),
+            machine.len(),
         )
     }
 }
 
-pub fn run(image: &[u8], insts: &[u64], labels: &[u64], count: u64, m: Parts, limit: u64, dumps: &mut [u64]) -> Ran {
+/// Runs the machine for at most `limit` steps.
+pub fn run(image: &[u8], insts: &[u8], labels: &[u8], count: u64, machine: &mut [u8], limit: u64, dumps: &mut [u8]) -> Ran {
     // SAFETY: see the module.
     unsafe {
         c::mm_run(
@@ -147,14 +99,8 @@ pub fn run(image: &[u8], insts: &[u64], labels: &[u64], count: u64, m: Parts, li
             labels.as_ptr(),
             labels.len(),
             count,
-            m.stack.as_mut_ptr(),
-            m.stack.len(),
-            m.calls.as_mut_ptr(),
-            m.calls.len(),
-            m.memory.as_mut_ptr(),
-            m.memory.len(),
-            m.numbers.as_mut_ptr(),
-            m.numbers.len(),
+            machine.as_mut_ptr(),
+            machine.len(),
             limit,
             dumps.as_mut_ptr(),
             dumps.len(),
@@ -162,39 +108,15 @@ pub fn run(image: &[u8], insts: &[u64], labels: &[u64], count: u64, m: Parts, li
     }
 }
 
-pub fn encode(image: &[u8], insts: &[u64], count: u64, out: &mut [u8]) -> Encoded {
+/// Writes the first `count` instructions out.
+pub fn encode(image: &[u8], insts: &[u8], count: u64, out: &mut [u8]) -> Encoded {
     // SAFETY: see the module.
     unsafe { c::mm_encode(image.as_ptr(), image.len(), insts.as_ptr(), insts.len(), count, out.as_mut_ptr(), out.len()) }
 }
 
-pub fn load_labels(image: &[u8], insts: &mut [u64], labels: &mut [Label], machine: &mut Machine) -> Loaded {
-    // SAFETY: see the module.
-    unsafe { c::mm_load_labels(image.as_ptr(), image.len(), insts.as_mut_ptr(), insts.len(), labels.as_mut_ptr(), labels.len(), machine) }
-}
-
-pub fn run_in_place(
-    image: &[u8],
-    insts: &[u64],
-    labels: &[Label],
-    count: u64,
-    machine: &mut Machine,
-    limit: u64,
-    dumps: &mut [u64],
-) -> Ran {
-    // SAFETY: see the module.
-    unsafe {
-        c::mm_run_in_place(
-            image.as_ptr(),
-            image.len(),
-            insts.as_ptr(),
-            insts.len(),
-            labels.as_ptr(),
-            labels.len(),
-            count,
-            machine,
-            limit,
-            dumps.as_mut_ptr(),
-            dumps.len(),
-        )
-    }
+/// The bytes of a buffer of cells. A cell lies there lowest byte first, as the archive writes it: this crate is for x86-64 only.
+#[cfg(feature = "alloc")]
+pub fn bytes_of(cells: &mut [u64]) -> &mut [u8] {
+    // SAFETY: the bytes are those of the slice, lent exclusively for as long; a byte needs no alignment, and any eight bytes are a u64.
+    unsafe { core::slice::from_raw_parts_mut(cells.as_mut_ptr().cast(), size_of_val(cells)) }
 }

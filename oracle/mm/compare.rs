@@ -1,9 +1,11 @@
 // One image in both machines: after the load the program, its re-encoding and the pointer; after every step the whole state.
 use crate::images::{self, Random};
+use crate::lent::layout::{FLAGS_AT, NUMBER_SIZE, POINTER_AT};
+use crate::lent::sys::Ran;
+use crate::lent::{number_at, Machine, Program};
 use crate::report::Report;
 use crate::trap::number;
-use mm::{Mm, Natives, Program};
-use mm_host::{Ending, Loaded, Machine, Number, Ran, Tables};
+use mm::{Mm, Natives};
 use std::fmt;
 use std::panic::{catch_unwind, AssertUnwindSafe};
 
@@ -35,17 +37,18 @@ const FLOATS: std::ops::RangeInclusive<u64> = 23..=26;
 fn first_difference(rust: &Mm, ours: &Machine) -> Option<String> {
     let cells = rust.stack().iter().map(|c| c.0.to_bits());
     let calls = rust.probe_calls().iter().map(|a| *a as u64);
-    if rust.probe_ip() as u64 != ours.ip {
-        Some(format!("pointer: Rust {}, ours {}", rust.probe_ip(), ours.ip))
-    } else if rust.probe_flags() != ours.flags {
-        Some(format!("flags: Rust {:08b}, ours {:08b}", rust.probe_flags(), ours.flags))
-    } else if *rust.halt() != ours.halted {
-        Some(format!("halted: Rust {}, ours {}", rust.halt(), ours.halted))
-    } else if !cells.clone().eq(ours.cells().iter().copied()) {
-        Some(format!("stack: Rust {:X?}, ours {:X?}", cells.collect::<Vec<_>>(), ours.cells()))
-    } else if !calls.clone().eq(ours.addresses().iter().copied()) {
-        Some(format!("call stack: Rust {:?}, ours {:?}", calls.collect::<Vec<_>>(), ours.addresses()))
-    } else if rust.probe_memory() != &ours.memory {
+    let (pointer, flags) = (ours.number(POINTER_AT), ours.0[FLAGS_AT]);
+    if rust.probe_ip() as u64 != pointer {
+        Some(format!("pointer: Rust {}, ours {pointer}", rust.probe_ip()))
+    } else if rust.probe_flags() != flags {
+        Some(format!("flags: Rust {:08b}, ours {flags:08b}", rust.probe_flags()))
+    } else if *rust.halt() != ours.is_halted() {
+        Some(format!("halted: Rust {}, ours {}", rust.halt(), ours.is_halted()))
+    } else if !cells.clone().eq(ours.cells()) {
+        Some(format!("stack: Rust {:X?}, ours {:X?}", cells.collect::<Vec<_>>(), ours.cells().collect::<Vec<_>>()))
+    } else if !calls.clone().eq(ours.addresses()) {
+        Some(format!("call stack: Rust {:?}, ours {:?}", calls.collect::<Vec<_>>(), ours.addresses().collect::<Vec<_>>()))
+    } else if rust.probe_memory() != ours.memory() {
         Some("memory".to_string())
     } else {
         None
@@ -53,11 +56,12 @@ fn first_difference(rust: &Mm, ours: &Machine) -> Option<String> {
 }
 
 struct Both<'a> {
-    image: &'a [u8],
-    tables: Tables,
-    count: u64,
-    program: &'a Program,
+    ours: Program<'a>,
+    rust: &'a mm::Program,
 }
+
+const HALTED: u64 = 0;
+const LIMIT: u64 = 1;
 
 enum Step {
     On,
@@ -72,19 +76,19 @@ struct Taken {
 }
 
 impl Taken {
-    fn ending(&self) -> Ending {
+    fn ending(&self) -> u64 {
         match (self.trap, self.op) {
-            (Some(t), _) => Ending::Number(Number(t)),
-            (None, 69) => Ending::Halted,
-            (None, _) => Ending::Limit,
+            (Some(t), _) => t,
+            (None, 69) => HALTED,
+            (None, _) => LIMIT,
         }
     }
 
     // Where a run of limit 1 with room for one cell says otherwise.
     fn difference(&self, ran: &Ran, cell: u64) -> Option<String> {
-        let (op, ending, dumped) = (self.op, self.ending(), usize::from(self.dumped.is_some()));
+        let (op, ending, dumped) = (self.op, self.ending(), u64::from(self.dumped.is_some()));
         if ran.ending != ending || ran.steps != 1 || ran.dumped != dumped {
-            Some(format!("first byte {op}: Rust {ending:?} and {dumped} cells, ours {ran:?}"))
+            Some(format!("first byte {op}: Rust {ending} and {dumped} cells, ours {ran:?}"))
         } else if self.dumped.is_some_and(|top| top != cell) {
             Some(format!("dumped cell: Rust {:X?}, ours {cell:X}", self.dumped))
         } else {
@@ -99,8 +103,9 @@ impl<'a> Both<'a> {
         let top = rust.stack().back().map(|c| c.0.to_bits());
         let full = rust.stack().len() >= 1024 && [1, 11, 22].contains(&op);
         let deep = rust.probe_calls().len() >= 1024 && op == 28;
-        let went = catch_unwind(AssertUnwindSafe(|| rust.probe_step(self.program)));
-        let trap = went.map_err(|_| Verdict::Outside("the Rust panics"))?.err().map(|t| number(&t));
+        let went = catch_unwind(AssertUnwindSafe(|| rust.probe_step(self.rust)));
+        let trap = went.map_err(|_| Verdict::Outside("the Rust panics"))?.err().map(|t| number(&t)).transpose();
+        let trap = trap.map_err(Verdict::Differs)?;
         if full && trap.is_none() || deep {
             return Err(Verdict::Outside("a stack over 1,024"));
         }
@@ -113,17 +118,17 @@ impl<'a> Both<'a> {
 
     // One step of both: they agree, or the comparison ends.
     fn step(&self, rust: &mut Mm<'a>, ours: &mut Machine, report: &mut Report) -> Result<Step, Verdict> {
-        let op = self.tables.insts[4 * ours.ip as usize];
-        let mut dumps = [0];
-        let halted = ours.halted;
-        let ran = mm_host::run(self.image, &self.tables, self.count, ours, 1, &mut dumps);
+        let op = self.ours.first_byte(ours.number(POINTER_AT));
+        let mut dumps = [0; NUMBER_SIZE];
+        let halted = ours.is_halted();
+        let ran = self.ours.run(ours, 1, &mut dumps);
         if halted {
-            let ended = ran.ending == Ending::Halted && ran.steps == 0;
+            let ended = ran.ending == HALTED && ran.steps == 0;
             return if ended { Ok(Step::Stop) } else { Err(Verdict::Differs(format!("a halted machine: {ran:?}"))) };
         }
         let taken = self.take(rust, op)?;
         report.step(op as u8, taken.trap);
-        if let Some(what) = taken.difference(&ran, dumps[0]) {
+        if let Some(what) = taken.difference(&ran, number_at(&dumps, 0)) {
             return Err(Verdict::Differs(what));
         }
         match first_difference(rust, ours) {
@@ -139,7 +144,7 @@ impl<'a> Both<'a> {
         for _ in 0..STEPS {
             match self.step(&mut rust, &mut ours, report) {
                 Err(verdict) => return verdict,
-                Ok(Step::Stop) if ours.halted || tries == 1 => return Verdict::Agrees,
+                Ok(Step::Stop) if ours.is_halted() || tries == 1 => return Verdict::Agrees,
                 Ok(Step::Stop) => tries += 1,
                 Ok(Step::On) => {}
             }
@@ -150,9 +155,9 @@ impl<'a> Both<'a> {
     // The same steps in runs of random limits and buffers leave the same machine and cells as one run.
     fn pieces(&self, fresh: &Machine, random: &mut Random, report: &mut Report) -> Verdict {
         let mut whole = fresh.clone();
-        let mut all = vec![0; STEPS as usize];
-        let one = mm_host::run(self.image, &self.tables, self.count, &mut whole, STEPS, &mut all);
-        all.truncate(one.dumped);
+        let mut all = vec![0; STEPS as usize * NUMBER_SIZE];
+        let one = self.ours.run(&mut whole, STEPS, &mut all);
+        all.truncate(one.dumped as usize * NUMBER_SIZE);
         let mut ours = fresh.clone();
         let (mut left, mut cells, mut runs) = (one.steps, Vec::new(), 0);
         while left > 0 {
@@ -161,12 +166,12 @@ impl<'a> Both<'a> {
                 return Verdict::Differs(format!("in pieces: {RUNS} runs and still {left} steps to go"));
             }
             let limit = random.below(left + 1);
-            let mut dumps = vec![0; random.below(4) as usize];
-            let ran = mm_host::run(self.image, &self.tables, self.count, &mut ours, limit, &mut dumps);
+            let mut dumps = vec![0; random.below(4) as usize * NUMBER_SIZE];
+            let ran = self.ours.run(&mut ours, limit, &mut dumps);
             if ran.steps > limit {
                 return Verdict::Differs(format!("limit {limit}: {ran:?}"));
             }
-            cells.extend_from_slice(&dumps[..ran.dumped]);
+            cells.extend_from_slice(&dumps[..ran.dumped as usize * NUMBER_SIZE]);
             left -= ran.steps;
         }
         report.pieces += 1;
@@ -193,59 +198,58 @@ fn beyond(number: u64, image: &[u8]) -> Option<(&'static str, bool)> {
 }
 
 // The load in both: the same number, or programs to be compared.
-fn load<'a>(image: &'a Vec<u8>, tables: &mut Tables, report: &mut Report) -> Result<(Loaded, Mm<'a>, Program), Verdict> {
-    let loaded = mm_host::load(image, tables);
-    if let Err(Number(n)) = loaded {
+fn load<'a>(image: &'a Vec<u8>, report: &mut Report) -> Result<(Program<'a>, Machine, Mm<'a>, mm::Program), Verdict> {
+    let loaded = Program::load(image);
+    if let Err(n) = loaded {
         match beyond(n, image) {
             Some((why, true)) => return Err(Verdict::Outside(why)),
             Some((why, false)) => return Err(Verdict::Differs(format!("ours refuses with {why}, which the image hasn't"))),
             None => {}
         }
     }
-    let original = catch_unwind(|| Mm::from_binary("image", image, Natives::new(), Vec::new()));
+    let original = catch_unwind(|| Mm::from_binary("image", image, Natives::new(), Vec::new()).map_err(|trap| number(&trap)));
     match (original, loaded) {
-        (Err(_), Err(Number(3))) => Err(Verdict::Outside("3, a negative length: the Rust panics")),
-        (Err(_), _) => Err(Verdict::Differs("the Rust panics at the load".to_string())),
-        (Ok(Err(trap)), Err(Number(n))) if number(&trap) == n => {
+        (Err(_), Err(3)) if images::has_negative_length(image) => Err(Verdict::Outside("3, a negative length: the Rust panics")),
+        (Err(_), other) => Err(Verdict::Differs(format!("the Rust panics at the load, ours {:?}", other.map(|(p, _)| p.count)))),
+        (Ok(Err(refusal)), Err(n)) if refusal == Ok(n) => {
             *report.refusals.entry(n).or_default() += 1;
             Err(Verdict::Agrees)
         }
-        (Ok(Err(trap)), other) => {
-            Err(Verdict::Differs(format!("the Rust refuses with {}, ours {:?}", number(&trap), other.map(|l| l.count))))
+        (Ok(Err(refusal)), other) => {
+            Err(Verdict::Differs(format!("the Rust refuses with {refusal:?}, ours {:?}", other.map(|(p, _)| p.count))))
         }
-        (Ok(Ok((rust, program))), Ok(loaded)) => Ok((loaded, rust, program)),
-        (Ok(Ok(_)), Err(n)) => Err(Verdict::Differs(format!("ours refuses: {n}"))),
+        (Ok(Ok((rust, program))), Ok((ours, machine))) => Ok((ours, machine, rust, program)),
+        (Ok(Ok(_)), Err(n)) => Err(Verdict::Differs(format!("ours refuses with {n}"))),
     }
 }
 
 // What both have after the load: the instructions, written out, and the machine.
-fn after_load(image: &[u8], tables: &Tables, loaded: &Loaded, rust: &Mm, program: &Program) -> Option<String> {
+fn after_load(ours: &Program, machine: &Machine, rust: &Mm, program: &mm::Program) -> Option<String> {
     let written: Vec<u8> = program.iter().flat_map(|(_, inst)| inst.as_bytes()).collect();
     let mut out = vec![0; 2 * 16_384];
-    let size = mm_host::encode(image, tables, loaded.count, &mut out);
-    if size != Ok(written.len()) || out[..written.len()] != written {
+    let answer = ours.encode(&mut out);
+    if (answer.number, answer.size) != (0, written.len() as u64) || out[..written.len()] != written {
         return Some("the program written out".to_string());
     }
-    if loaded.count as usize != program.len() {
-        return Some(format!("instructions: Rust {}, ours {}", program.len(), loaded.count));
+    if ours.count as usize != program.len() {
+        return Some(format!("instructions: Rust {}, ours {}", program.len(), ours.count));
     }
-    first_difference(rust, &loaded.machine).map(|what| format!("after the load: {what}"))
+    first_difference(rust, machine).map(|what| format!("after the load: {what}"))
 }
 
 fn judged(image: &Vec<u8>, random: &mut Random, report: &mut Report) -> Verdict {
-    let mut tables = Tables::new();
-    let (loaded, rust, program) = match load(image, &mut tables, report) {
+    let (ours, machine, rust, program) = match load(image, report) {
         Ok(both) => both,
         Err(verdict) => return verdict,
     };
-    if let Some(what) = after_load(image, &tables, &loaded, &rust, &program) {
+    if let Some(what) = after_load(&ours, &machine, &rust, &program) {
         return Verdict::Differs(what);
     }
-    let both = Both { image, tables, count: loaded.count, program: &program };
-    if let Verdict::Differs(what) = both.pieces(&loaded.machine, random, report) {
+    let both = Both { ours, rust: &program };
+    if let Verdict::Differs(what) = both.pieces(&machine, random, report) {
         return Verdict::Differs(what);
     }
-    both.steps(rust, loaded.machine, report)
+    both.steps(rust, machine, report)
 }
 
 pub fn compare(image: &[u8], random: &mut Random, report: &mut Report) -> Verdict {

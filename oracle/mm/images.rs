@@ -137,7 +137,7 @@ impl Generator<'_> {
                 self.replace(2, op, Kind::Whole)
             }
             2 if self.is(0, Kind::Whole) => {
-                wide(1, I64 | 1 + self.r.below(9), &mut self.out);
+                wide(1, I64 | (1 + self.r.below(9)), &mut self.out);
                 self.kinds.push(Kind::Whole);
                 self.replace(2, 8, Kind::Whole)
             }
@@ -397,7 +397,7 @@ pub fn instructions(image: &[u8]) -> Vec<usize> {
         at += match image[at] {
             1 | 10 | 11 => 9,
             27 | 46 => 2,
-            12..=21 | 28 | 30 | 37 => 9 + image.get(at + 1..at + 3).map_or(0, |b| b[0] as usize + 256 * b[1] as usize),
+            first if is_named(first) => 9 + image.get(at + 1..at + 3).map_or(0, |b| b[0] as usize + 256 * b[1] as usize),
             _ => 1,
         };
     }
@@ -410,10 +410,23 @@ pub fn firsts(image: &[u8]) -> Vec<u8> {
     instructions(image).iter().filter_map(|at| image.get(*at).copied()).collect()
 }
 
+// Whether an instruction with that first byte has a name.
+pub fn is_named(first: u8) -> bool {
+    matches!(first, 12..=21 | 28 | 30 | 37)
+}
+
 // Whether a name has a byte of 128 or more: document 01's number 4, which the original doesn't have.
 pub fn has_high_name(image: &[u8]) -> bool {
     instructions(image).windows(2).any(|w| {
-        let named = image.get(w[0]).is_some_and(|op| matches!(op, 12..=21 | 28 | 30 | 37));
+        let named = image.get(w[0]).is_some_and(|first| is_named(*first));
         named && image[(w[0] + 9).min(image.len())..w[1].min(image.len())].iter().any(|b| *b >= 128)
+    })
+}
+
+// Whether a length field has bit 63 set and a magnitude that isn't 0, where the original panics.
+pub fn has_negative_length(image: &[u8]) -> bool {
+    instructions(image).into_iter().any(|at| match image.get(at..at + 9) {
+        Some([first, magnitude @ .., _, sign]) => is_named(*first) && *sign >= 128 && magnitude.iter().any(|b| *b != 0),
+        _ => false,
     })
 }

@@ -2,6 +2,8 @@
 // Usage: oracle-mm [SEED] [IMAGES]. The original prints to standard output and standard error, so the report goes to descriptor 3.
 mod compare;
 mod images;
+#[path = "../lent.rs"]
+mod lent;
 mod output;
 mod report;
 mod shrink;

@@ -49,7 +49,7 @@ fn trace<'a>(m: &mut Mm<'a>, program: &'a Program, steps: usize) -> Vec<u64> {
             break;
         }
         let Ok(went) = catch_unwind(AssertUnwindSafe(|| m.probe_step(program))) else { break };
-        let trap = went.err().map(|t| number(&t));
+        let trap = went.err().map(|t| number(&t).expect("a number"));
         if (23..=26).contains(&op) && trap.is_none() && m.stack().back().is_some_and(|c| c.0.is_nan()) {
             break;
         }
@@ -72,7 +72,7 @@ fn record(image: &Vec<u8>) -> Option<Vec<u8>> {
     let mut out = (image.len() as u16).to_le_bytes().to_vec();
     out.extend_from_slice(image);
     match loaded {
-        Err(trap) => out.push(number(&trap) as u8),
+        Err(trap) => out.push(number(&trap).expect("a number") as u8),
         Ok((mut m, program)) => {
             let digests = trace(&mut m, &program, 120);
             out.push(0);

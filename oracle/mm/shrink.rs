@@ -18,7 +18,7 @@ fn smaller(image: &[u8]) -> Vec<Vec<u8>> {
 
 // The image with half of the name of the instruction from..to, if it has one of two bytes or more that ends there.
 fn half_named(image: &[u8], from: usize, to: usize) -> Option<Vec<u8>> {
-    let named = matches!(image[from], 12..=21 | 28 | 30 | 37);
+    let named = images::is_named(image[from]);
     let len = to.checked_sub(from + 9).filter(|&n| named && n > 1 && to <= image.len())? / 2;
     let mut half = image[..from + 9 + len].to_vec();
     half[from + 1..from + 9].copy_from_slice(&(len as u64).to_le_bytes());

@@ -1,9 +1,9 @@
 // The original's traps and document 01's numbers.
 use mm::Trap;
 
-/// Document 01's number of a trap of the original.
-pub fn number(trap: &Trap) -> u64 {
-    match trap {
+/// Document 01's number of a trap of the original, or that it has none.
+pub fn number(trap: &Trap) -> Result<u64, String> {
+    Ok(match trap {
         Trap::UndefinedSymbol(_) => 2,
         Trap::InvalidOperand(_) => 3,
         Trap::NoEntryPointFound(_) => 7,
@@ -16,6 +16,6 @@ pub fn number(trap: &Trap) -> u64 {
         Trap::InvalidType(..) => 28,
         Trap::FailedConversion(..) => 29,
         Trap::OperationWithDifferentTypes(..) => 30,
-        _ => 0,
-    }
+        other => return Err(format!("the Rust has a trap without a number: {other:?}")),
+    })
 }

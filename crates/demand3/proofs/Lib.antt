@@ -1,1 +1,4 @@
 mod Lists
+mod Keeps
+mod Refusals
+mod Hosts

@@ -9,25 +9,25 @@ use Rattle.machine.specs.declared.Machine.{Machine}
 use Rattle.machine.specs.declared.Label.{Label}
 use Rattle.machine.specs.Load.{Loaded, Load, rejects, accepts, load, instsAfter, labelsAfter, fresh, countOf}
 use Rattle.machine.specs.Lookup.{Program}
-use Rattle.machine.specs.Run.{run}
 use Rattle.machine.specs.Statements.{RunsFrom, lent}
 use Rattle.machine.proofs.Runs.{runs-are-one-history}
 use Rattle.tables.specs.Tables.{instsOf, labelsOf}
 use Rattle.loader.specs.Loading.{starts, answerOf, freshAt, means, loadOf}
 use Rattle.loader.proofs.Left.{insts-left, labels-left}
 use Rattle.run.specs.declared.Ran.{Ran}
-use Rattle.run.specs.Runs.{answer}
+use Rattle.run.specs.Runs.{answer, runBytes}
+use Rattle.run.proofs.Cells.{in-cells}
 use Rattle.label_loader.specs.Loading as records
 use Rattle.demand3.specs.Calls.{Call, Called, request, result, OneHistoryOf, CallsAreOneHistory, RecordCallsAreOneHistory, InPlaceCallsAreOneHistory}
 
 -- the contract of a run over the program p
 abbrev Runs : Program → Machine → ℕ → List ℕ → Ran → List ℕ → Type 0
-Runs p m limit dumps r dumps′ = answer r dumps′ ≡ run p limit dumps m
+Runs p m limit dumps r dumps′ = answer r dumps′ ≡ runBytes p limit dumps m
 
 from-calls : (p : Program) (m : Machine) (cs : List Call) → Called (Runs p) m cs → RunsFrom p m (map request cs) (map result cs)
 unfolding Called RunsFrom
 from-calls p m [] h = tt
-from-calls p m (c ∷ cs) h = (h .0, from-calls p (c .ran .machine) cs (h .1))
+from-calls p m (c ∷ cs) h = (in-cells p (c .limit) (c .lent) m (answer (c .ran) (c .left)) (h .0), from-calls p (c .ran .machine) cs (h .1))
 
 module _ (image : List ℕ) (insts : List Inst) (labels : List Label) (ip count : ℕ) (insts′ : List Inst) (labels′ : List Label) (bytes : Bytes image) where
   abbrev p : Program

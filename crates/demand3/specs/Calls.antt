@@ -8,6 +8,7 @@ use Rattle.machine.specs.declared.Label.{Label}
 use Rattle.machine.specs.Load.{Load, Loaded, accepts}
 use Rattle.machine.specs.Run.{Result}
 use Rattle.machine.specs.Statements.{Request, OneHistory}
+use Rattle.tables.specs.Tables.{numbersIn}
 use Rattle.loader.specs.declared.Loading.the-variants.{Accepted}
 use Rattle.loader.specs.Loading.{freshAt, loadOf, FromBinary}
 use Rattle.run.specs.declared.Ran.{Ran}
@@ -16,7 +17,7 @@ use Rattle.label_loader.specs.Loading as records
 use Rattle.label_run.specs.declared.Report.{Report}
 use Rattle.label_run.specs.Runs as runs
 
--- one call of a run: its limit, the buffer as it was lent, what it returned, and the buffer as it was left
+-- one call of a run: its limit, the buffer's bytes as they were lent, what it returned, and its bytes as they were left
 pub record Call : Type 0 where
   pub limit : ℕ
   pub lent : List ℕ
@@ -28,15 +29,19 @@ unfoldable pub Called : (Machine → ℕ → List ℕ → Ran → List ℕ → T
 Called Contract m [] = Unit {0}
 Called Contract m (c ∷ cs) = Contract m (c .limit) (c .lent) (c .ran) (c .left) × Called Contract (c .ran .machine) cs
 
+-- as the definitions have it, with the buffer's cells
 abbrev pub request : Call → Request
-request c = record { limit = c .limit; buffer = c .lent }
+request c = record { limit = c .limit; buffer = numbersIn (c .lent) }
 
 abbrev pub result : Call → Result
-result c = answer (c .ran) (c .left)
+result c = answer (c .ran) (numbersIn (c .left))
 
--- demand 3 of the calls, of an image that a load with this answer accepted
+-- demand 3 of these requests and results, of an image that a load with this answer accepted
+abbrev pub AcceptedHistory : List ℕ → Load → List Request → List Result → Type 0
+AcceptedHistory image answer qs rs = (l : Loaded) × (answer ≡ accepts l) × OneHistory image l qs rs
+
 abbrev pub OneHistoryOf : List ℕ → Load → List Call → Type 0
-OneHistoryOf image answer cs = (l : Loaded) × (answer ≡ accepts l) × OneHistory image l (map request cs) (map result cs)
+OneHistoryOf image answer cs = AcceptedHistory image answer (map request cs) (map result cs)
 
 -- A load that accepted, whatever the tables held, and runs from its fresh machine with the tables as it left them and its count
 abbrev pub CallsAreOneHistory : Type 0
@@ -71,6 +76,6 @@ InPlaceCallsAreOneHistory =
     OverRecords (λ image insts labels count m limit dumps r dumps′. runs.ExecuteInPlace image insts labels count m limit dumps (reported r) (r .machine) dumps′)
 
 pub record Demand3 : Type 0 where
-  pub by-numbers : CallsAreOneHistory
+  pub by-bytes : CallsAreOneHistory
   pub by-records : RecordCallsAreOneHistory
   pub in-place : InPlaceCallsAreOneHistory

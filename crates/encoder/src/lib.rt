@@ -56,13 +56,7 @@ fn answer(room: usize, r: Room) -> Written
 }
 
 // The answer, without a write. Every record is tested, also behind those that fill the room, since 9 comes before 10.
-fn check(
-    forms: &[u8; TABLE_SIZE],
-    image: &[u8],
-    insts: &[u64],
-    count: usize,
-    room: usize,
-) -> Written
+fn check(forms: &[u8; TABLE_SIZE], image: &[u8], insts: &[u8], count: usize, room: usize) -> Written
     requires { ⌜ now forms ≡ formTable ⌝ }
     ensures { λ r. ⌜ ((out : List ℕ) → length out ≡ room → means r ≡ encode (now (image .entry)) (instsOf (now (insts .entry))) count out) ⌝ }
 {
@@ -87,7 +81,7 @@ fn check(
 }
 
 // The records' bytes from the output's front on.
-fn write(forms: &[u8; TABLE_SIZE], image: &[u8], insts: &[u64], count: usize, out: &mut [u8])
+fn write(forms: &[u8; TABLE_SIZE], image: &[u8], insts: &[u8], count: usize, out: &mut [u8])
     requires { ⌜ now forms ≡ formTable ⌝ }
     requires { ⌜ count ≤ length (instsOf (now insts)) ⌝ }
     requires { ⌜ allWellFormed (now image) (take count (instsOf (now insts))) ≡ true ⌝ }
@@ -104,7 +98,7 @@ fn write(forms: &[u8; TABLE_SIZE], image: &[u8], insts: &[u64], count: usize, ou
 }
 
 // Writes `count` records of the table, and leaves the rest of the output. With a number nothing is written.
-pub fn to_binary(image: &[u8], insts: &[u64], count: usize, out: &mut [u8]) -> Written
+pub fn to_binary(image: &[u8], insts: &[u8], count: usize, out: &mut [u8]) -> Written
     ensures { λ r. ⌜ means r ≡ encode (now (image .entry)) (instsOf (now (insts .entry))) count (now (out .entry)) ⌝ }
     ensures { λ _. ⌜ now (out .exit) ≡ outputAfter (encode (now (image .entry)) (instsOf (now (insts .entry))) count (now (out .entry))) (now (image .entry)) (instsOf (now (insts .entry))) count (now (out .entry)) ⌝ }
 {

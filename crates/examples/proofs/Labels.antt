@@ -10,7 +10,8 @@ use borrow.Author.Tests.{lt-ltb, le-ltb, lt-leb, le-leb}
 use Rattle.inst.specs.declared.Inst.{Inst}
 use Rattle.inst.specs.Forms.{formOf, hasNone, hasEight, hasOne, hasName}
 use Rattle.inst.specs.Records.{nameOk, named}
-use Rattle.inst_decode.specs.Decode.{reads, littleEndian, word, isNegative, readName, readOperand, fromBytes}
+use Rattle.word.specs.Words.{littleEndian, word}
+use Rattle.inst_decode.specs.Decode.{reads, isNegative, readName, readOperand, fromBytes}
 use Rattle.inst.proofs.Laws as laws
 use Rattle.machine.specs.declared.Label.{Label}
 use Rattle.machine.specs.Limits.{instLimit, labelRecords}

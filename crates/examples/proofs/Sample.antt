@@ -8,6 +8,7 @@ use Rattle.integer.specs.Integers.{iadd, imul}
 use Rattle.inst.specs.declared.Inst.{Inst}
 use Rattle.inst.specs.Forms.{formOf, hasNone, hasEight, hasOne, hasName}
 use Rattle.inst.specs.Records.{nameOk, nameIn, fits, wellFormed}
+use Rattle.word.specs.Words.{littleEndian}
 use Rattle.inst_decode.specs.Decode as decode
 use Rattle.machine.specs.declared.Label.{Label}
 use Rattle.machine.specs.declared.Ending.{Ending}
@@ -60,5 +61,5 @@ ran (accepts l) = line (run (lent image insts labels l) 10000 (0 ∷ []) (fresh 
 -- end halt steps 6 ip 5 height 1 calls 0, and one cell
 sample : ran (load image insts labels)
     ≡ record { ending = Halted; steps = 6; ip = 5; height = 1; calls = 0; dumped = 1; cell = 0x7FF2000000000006 ∷ [] }
-unfolding image insts labels line ran load loads same linked scanOne andThen scan lastOf anyNative lastIsHalt closed checked entered finished decode.fromBytes decode.readName decode.readOperand decode.littleEndian decode.typeOf decode.isNegative formOf hasNone hasEight hasOne hasName nameOk nameIn fits wellFormed run reported course turn taken before isIll isDump step wellState exec push ofCells divides integerStep numberOf dump _must_else_then_ opOf walk lookupFrom lookup withStack moved stopped fresh lent instsAfter labelsAfter nan.typeOf nan.tagged nan.value nan.modulo64 nan.signed nan.boxed imul
+unfolding image insts labels line ran load loads same linked scanOne andThen scan lastOf anyNative lastIsHalt closed checked entered finished decode.fromBytes decode.readName decode.readOperand littleEndian decode.typeOf decode.isNegative formOf hasNone hasEight hasOne hasName nameOk nameIn fits wellFormed run reported course turn taken before isIll isDump step wellState exec push ofCells divides integerStep numberOf dump _must_else_then_ opOf walk lookupFrom lookup withStack moved stopped fresh lent instsAfter labelsAfter nan.typeOf nan.tagged nan.value nan.modulo64 nan.signed nan.boxed imul
 sample = refl

@@ -2,9 +2,10 @@
 use Prim.Native.Nat.{ℕ}
 use mathlib.Core.Path.{_≡_, refl}
 use mathlib.Core.List.{List, [], _∷_}
+use Rattle.word.specs.Words.{littleEndian}
 use Rattle.inst.specs.Forms.{hasNone, hasEight, hasOne, hasName, formOf}
 use Rattle.inst.specs.Records.{plain, named, nameOk}
-use Rattle.inst_decode.specs.Decode.{refused, reads, typeOf, littleEndian, isNegative, readName, readOperand, fromBytes}
+use Rattle.inst_decode.specs.Decode.{refused, reads, typeOf, isNegative, readName, readOperand, fromBytes}
 
 -- LABEL `_start`, PUSH 2, PUSH 3, IMUL, IDMP 1
 image : List ℕ

@@ -7,11 +7,12 @@ use native.Mathlib.Omega.{arith}
 use lib.Dec.{eqb, ltb, leb, lit≤}
 use lib.ListN.{length, getD}
 use borrow.Author.Tests.{ne-eqb, ltb-false, leb-false, le-leb}
+use Rattle.word.specs.Words.{word}
 use Rattle.inst.specs.declared.Inst.{Inst}
 use Rattle.inst.specs.Forms.{Form, none, eight, one, name, undefined, hasNone, hasEight, hasOne, hasName, formOf, letterOf}
 use Rattle.inst.specs.Records.{Bytes, nameOk, part, nameIn, fits, wellFormed}
 use Rattle.inst.proofs.Laws.{by-test}
-use Rattle.inst_decode.specs.Decode.{Answer, refused, reads, typeOf, word, magnitude, isNegative, readName, readOperand, fromBytes}
+use Rattle.inst_decode.specs.Decode.{Answer, refused, reads, typeOf, magnitude, isNegative, readName, readOperand, fromBytes}
 
 -- what was read moves on, lies in the image with its name and is well formed, and 27 was read as 46
 pub record ReadIn (image : List ℕ) (at : ℕ) (i : Inst) (size : ℕ) : Type 0 where

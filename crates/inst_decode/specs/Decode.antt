@@ -4,7 +4,7 @@ use mathlib.Core.Bool.{Bool, cond, _&&_, not}
 use mathlib.Core.List.{List, [], _∷_}
 use lib.Dec.{eqb, ltb, leb}
 use lib.ListN.{length, getD}
-use lib.Seq.{slice}
+use Rattle.word.specs.Words.{word}
 use Rattle.inst.specs.declared.Inst.{Inst}
 use Rattle.inst_decode.specs.declared.Decoded.{Decoded}
 use Rattle.inst_decode.specs.declared.Decoded.the-variants.{Undefined, PastEnd, BadName, Read}
@@ -26,15 +26,6 @@ means (Read i size) = reads i size
 -- byte 27 decodes as FDMP, 46
 unfoldable pub typeOf : ℕ → ℕ
 typeOf op = cond (eqb op 27) 46 op
-
--- a number of bytes, the lowest first
-unfoldable pub littleEndian : List ℕ → ℕ
-littleEndian [] = 0
-littleEndian (b ∷ bs) = b + 256 * littleEndian bs
-
--- the eight bytes from `at` on
-abbrev pub word : List ℕ → ℕ → ℕ
-word image at = littleEndian (slice at (at + 8) image)
 
 -- the length field of a name: the low 48 bits are its magnitude, bits 48 to 62 are ignored
 abbrev pub magnitude : ℕ → ℕ

@@ -3,7 +3,7 @@ ghost use mathlib.Core.Path.{_≡_};
 ghost use Prim.Native.Nat.{_+_, _≤_, _<_};
 ghost use lib.ListN.{length};
 ghost use Rattle.inst.specs.Forms.{eight, one, name, formTable};
-ghost use Rattle.inst_decode.specs.Decode.{means, word, typeOf, isNegative, readName, readOperand, fromBytes};
+ghost use Rattle.inst_decode.specs.Decode.{means, typeOf, isNegative, readName, readOperand, fromBytes};
 use inst::EIGHT;
 use inst::Inst;
 use inst::NAME;
@@ -12,6 +12,7 @@ use inst::ONE;
 use inst::TABLE_SIZE;
 use inst::form;
 use inst::name_ok;
+use word::word_at;
 
 // What from_bytes finds: a number of document 01 by its case, or a record and its size.
 pub enum Decoded {
@@ -19,27 +20,6 @@ pub enum Decoded {
     PastEnd,
     BadName,
     Read(Inst, usize),
-}
-
-// A byte as a number.
-fn wide(byte: u8) -> u64
-    ensures { λ r. ⌜ r ≡ byte ⌝ }
-{
-    byte as u64
-}
-
-// The eight bytes from `at` on as a number, the lowest first: read from the highest down.
-fn word_at(image: &[u8], at: usize) -> u64
-    requires { ⌜ at + 8 ≤ length (now image) ⌝ }
-    ensures { λ r. ⌜ r ≡ word (now (image .entry)) at ⌝ }
-{
-    let mut number: u64 = 0;
-    let mut left: usize = 8;
-    while left > 0 {
-        left -= 1;
-        number = number * 256 + wide(image[at + left]);
-    }
-    number
 }
 
 // An operand of eight bytes behind the first byte at `at`.

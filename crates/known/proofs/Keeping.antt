@@ -12,6 +12,7 @@ use Rattle.inst.proofs.Laws.{and-left, and-right}
 use Rattle.inst.specs.Records.{wellFormed}
 use Rattle.known.specs.Known.{knownLimit, unknown, looksUp, instOf, Entries, Sized}
 use Rattle.known.specs.Keeps.{isKept, KeepsJump, isPlainAt, KeepsPlain, Learnt, Learns}
+use Rattle.tables.specs.Tables.{numberAt}
 
 -- an array in which a slot was set or not keeps its length
 same-length : (b : Bool) (xs : List ℕ) (i x : ℕ) → length (cond b (set xs i x) xs) ≡ length xs
@@ -49,22 +50,22 @@ module _ {keys targets : List ℕ} {at op : ℕ} (sized : Sized keys targets) wh
 
 -- what is plain
 module _ (image xs : List ℕ) (i : ℕ) where
-  pub plain-is : (b : Bool) → looksUp (getD xs (i * 4) 0) ≡ b → isPlainAt image xs i ≡ (not b && wellFormed image (instOf xs i))
+  pub plain-is : (b : Bool) → looksUp (numberAt xs (i * 4)) ≡ b → isPlainAt image xs i ≡ (not b && wellFormed image (instOf xs i))
   unfolding isPlainAt
   plain-is b e = rw e refl
 
   module _ (h : isPlainAt image xs i ≡ true) where
     pub plain-formed : wellFormed image (instOf xs i) ≡ true
     unfolding isPlainAt
-    plain-formed = and-right (not (looksUp (getD xs (i * 4) 0))) _ h
+    plain-formed = and-right (not (looksUp (numberAt xs (i * 4)))) _ h
 
     no-lookup : (b : Bool) → not b ≡ true → b ≡ false
     no-lookup true e = sym e
     no-lookup false e = refl
 
-    pub plain-no-lookup : looksUp (getD xs (i * 4) 0) ≡ false
+    pub plain-no-lookup : looksUp (numberAt xs (i * 4)) ≡ false
     unfolding isPlainAt
-    plain-no-lookup = no-lookup (looksUp (getD xs (i * 4) 0)) (and-left (not (looksUp (getD xs (i * 4) 0))) _ h)
+    plain-no-lookup = no-lookup (looksUp (numberAt xs (i * 4))) (and-left (not (looksUp (numberAt xs (i * 4)))) _ h)
 
 -- keys that are learnt one after another
 module _ {image xs : List ℕ} {count : ℕ} {keys₀ : List ℕ} where
@@ -73,7 +74,7 @@ module _ {image xs : List ℕ} {count : ℕ} {keys₀ : List ℕ} where
 
   module _ (long₀ : length keys₀ ≡ knownLimit) {keys : List ℕ} (q : Learns image xs count keys₀ keys) (at : ℕ) (below : at < count) where
     abbrev op : ℕ
-    op = getD xs (at * 4) 0
+    op = numberAt xs (at * 4)
 
     each-set : at < knownLimit → isPlainAt image xs at ≡ true → (i : ℕ) (b : Bool) → eqb i at ≡ b →
         (getD (set keys at op) i 0 ≡ getD keys₀ i 0) ⊎ Learnt image xs count (getD (set keys at op) i 0) i
@@ -97,7 +98,7 @@ module _ {image xs : List ℕ} {count : ℕ} {keys₀ : List ℕ} where
     pub learns-sized : Sized keys₀ targets → Sized keys' targets
     learns-sized sized = record { keys-long = q .long ∙ sized .keys-long; targets-long = sized .targets-long }
 
-    pub learns : (P : ℕ → ℕ → ℕ → Type 0) → Entries P keys₀ targets → ((i t : ℕ) → Learnt image xs count (getD keys' i 0) i → P (getD xs (i * 4) 0) t i) →
+    pub learns : (P : ℕ → ℕ → ℕ → Type 0) → Entries P keys₀ targets → ((i t : ℕ) → Learnt image xs count (getD keys' i 0) i → P (numberAt xs (i * 4)) t i) →
         Entries P keys' targets
     learns P entries k i l u =
         ⊎-elim (λ e. rw e (entries i l (λ w. u (e ∙ w)))) (λ h. rw (← (h .typ-is)) (k i (getD targets i 0) h)) (q .each i)

@@ -8,6 +8,7 @@ use lib.Dec.{ltb, leb}
 use lib.ListN.{length, getD, set}
 use Rattle.inst.specs.Records.{wellFormed}
 use Rattle.known.specs.Known.{knownLimit, looksUp, instOf}
+use Rattle.tables.specs.Tables.{numberAt}
 
 -- the first byte of the instruction at an index, if the array has a slot for it
 pub record Keeps (keys : List ℕ) (i op : ℕ) (keys' : List ℕ) : Type 0 where
@@ -23,16 +24,16 @@ pub record KeepsJump (keys targets : List ℕ) (i op found : ℕ) (keys' targets
 
 -- an instruction of the table xs that needs no lookup, with a well-formed record
 unfoldable pub isPlainAt : List ℕ → List ℕ → ℕ → Bool
-isPlainAt image xs i = not (looksUp (getD xs (i * 4) 0)) && wellFormed image (instOf xs i)
+isPlainAt image xs i = not (looksUp (numberAt xs (i * 4))) && wellFormed image (instOf xs i)
 
 pub record KeepsPlain (image xs keys : List ℕ) (i : ℕ) (keys' : List ℕ) : Type 0 where
-  pub keys-are : keys' ≡ cond (isPlainAt image xs i && ltb i knownLimit) (set keys i (getD xs (i * 4) 0)) keys
+  pub keys-are : keys' ≡ cond (isPlainAt image xs i && ltb i knownLimit) (set keys i (numberAt xs (i * 4))) keys
 
 -- each key is as before, or the first byte of such an instruction below the count
 pub record Learnt (image xs : List ℕ) (count key i : ℕ) : Type 0 where
   pub below : i < count
   pub plain : isPlainAt image xs i ≡ true
-  pub typ-is : getD xs (i * 4) 0 ≡ key
+  pub typ-is : numberAt xs (i * 4) ≡ key
 
 pub record Learns (image xs : List ℕ) (count : ℕ) (keys keys' : List ℕ) : Type 0 where
   pub long : length keys' ≡ length keys

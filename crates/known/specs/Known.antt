@@ -8,7 +8,7 @@ use lib.ListN.{length, getD}
 use Rattle.inst.specs.declared.Inst.{Inst}
 use Rattle.inst.specs.Records.{wellFormed}
 use Rattle.machine.specs.Lookup.{Program, leadsTo, lookup}
-use Rattle.tables.specs.Tables.{inst, instsOf}
+use Rattle.tables.specs.Tables.{numberAt, inst, instsOf}
 
 -- so many instructions can be known, from the first on; and the key of one that isn't
 abbrev pub knownLimit : ℕ
@@ -23,19 +23,19 @@ looksUp op = eqb op 28 || (leb 12 op && leb op 20)
 
 -- the record at an index of the table xs
 abbrev pub instOf : List ℕ → ℕ → Inst
-instOf xs i = inst (getD xs (i * 4) 0) (getD xs (i * 4 + 1) 0) (getD xs (i * 4 + 2) 0) (getD xs (i * 4 + 3) 0)
+instOf xs i = inst (numberAt xs (i * 4)) (numberAt xs (i * 4 + 1)) (numberAt xs (i * 4 + 2)) (numberAt xs (i * 4 + 3))
 
 -- record i is below the count and well formed, its first byte is the key, and the lookup of a jump or CALL finds t
 pub record KnownAt (p : Program) (xs : List ℕ) (key t i : ℕ) : Type 0 where
   pub below : i < p .count
   pub formed : wellFormed (p .image) (instOf xs i) ≡ true
-  pub typ-is : getD xs (i * 4) 0 ≡ key
+  pub typ-is : numberAt xs (i * 4) ≡ key
   pub target-is : looksUp key ≡ true → lookup p (instOf xs i) ≡ leadsTo t
 
 -- a program over the table xs
 pub record Over (p : Program) (xs : List ℕ) : Type 0 where
   pub table : p .insts ≡ instsOf xs
-  pub inside : p .count * 4 ≤ length xs
+  pub inside : p .count * 32 ≤ length xs
 
 -- P holds of each known instruction's key, target and index
 abbrev pub Entries : (ℕ → ℕ → ℕ → Type 0) → List ℕ → List ℕ → Type 0
@@ -46,7 +46,7 @@ Known p xs keys targets = Entries (KnownAt p xs) keys targets
 
 -- their records are in the table
 abbrev pub Listed : List ℕ → List ℕ → List ℕ → Type 0
-Listed xs keys targets = Entries (λ (key t i : ℕ). i * 4 + 3 < length xs) keys targets
+Listed xs keys targets = Entries (λ (key t i : ℕ). i * 32 + 31 < length xs) keys targets
 
 -- the two arrays have their length
 pub record Sized (keys targets : List ℕ) : Type 0 where

@@ -13,6 +13,7 @@ ghost use Rattle.known.specs.Known.{knownLimit, looksUp, instOf};
 ghost use Rattle.known.specs.Keeps.{Keeps, KeepsJump, KeepsPlain, Learns};
 use inst::Inst;
 use inst::TABLE_SIZE;
+use tables::number_at;
 
 // So many instructions can be known, from the first on.
 pub const KNOWN_LIMIT: usize = 4096;
@@ -24,9 +25,9 @@ pub const UNKNOWN: u8 = 255;
 const AHEAD: usize = 32;
 
 // Whether the record at an index of the table is none that number 34 calls ill.
-pub fn is_well_formed_at(forms: &[u8; TABLE_SIZE], image: &[u8], insts: &[u64], at: usize) -> bool
+pub fn is_well_formed_at(forms: &[u8; TABLE_SIZE], image: &[u8], insts: &[u8], at: usize) -> bool
     requires { ⌜ now forms ≡ formTable ⌝ }
-    requires { ⌜ at * 4 + 3 < length (now insts) ⌝ }
+    requires { ⌜ at * 32 + 31 < length (now insts) ⌝ }
     ensures { λ r. ⌜ r ≡ wellFormed (now (image .entry)) (instOf (now (insts .entry)) at) ⌝ }
 {
     let i = at * 4;
@@ -34,10 +35,10 @@ pub fn is_well_formed_at(forms: &[u8; TABLE_SIZE], image: &[u8], insts: &[u64], 
         forms,
         image,
         Inst {
-            typ: insts[i],
-            val: insts[i + 1],
-            start: insts[i + 2],
-            len: insts[i + 3],
+            typ: number_at(insts, i),
+            val: number_at(insts, i + 1),
+            start: number_at(insts, i + 2),
+            len: number_at(insts, i + 3),
         },
     )
 }
@@ -102,15 +103,15 @@ fn end_of(keys: &[u8; KNOWN_LIMIT], from: usize, count: usize) -> usize
 fn keep_plain(
     forms: &[u8; TABLE_SIZE],
     image: &[u8],
-    insts: &[u64],
+    insts: &[u8],
     keys: &mut [u8; KNOWN_LIMIT],
     at: usize,
 )
     requires { ⌜ now forms ≡ formTable ⌝ }
-    requires { ⌜ at * 4 + 3 < length (now insts) ⌝ }
+    requires { ⌜ at * 32 + 31 < length (now insts) ⌝ }
     ensures { λ _. ⌜ KeepsPlain (now (image .entry)) (now (insts .entry)) (now (keys .entry)) at (now (keys .exit)) ⌝ }
 {
-    let op = insts[at * 4];
+    let op = number_at(insts, at * 4);
     if looks_up(op) {
         return;
     }
@@ -124,13 +125,13 @@ fn keep_plain(
 pub fn learn(
     forms: &[u8; TABLE_SIZE],
     image: &[u8],
-    insts: &[u64],
+    insts: &[u8],
     count: usize,
     keys: &mut [u8; KNOWN_LIMIT],
     from: usize,
 )
     requires { ⌜ now forms ≡ formTable ⌝ }
-    requires { ⌜ (count * 4 ≤ length (now insts)) × (length (now keys) ≡ knownLimit) ⌝ }
+    requires { ⌜ (count * 32 ≤ length (now insts)) × (length (now keys) ≡ knownLimit) ⌝ }
     ensures { λ _. ⌜ Learns (now (image .entry)) (now (insts .entry)) count (now (keys .entry)) (now (keys .exit)) ⌝ }
 {
     let end = end_of(keys, from, count);

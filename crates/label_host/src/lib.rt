@@ -45,7 +45,7 @@ fn answered(answer: Loading, m: Machine) -> Begun
 #[no_mangle]
 pub extern "C" fn mm_load_labels(
     image: &[u8],
-    insts: &mut [u64],
+    insts: &mut [u8],
     labels: &mut [Label],
     m: &mut Machine,
 ) -> Loaded
@@ -76,12 +76,12 @@ fn ran(r: Report) -> Ran
 #[no_mangle]
 pub extern "C" fn mm_run_in_place(
     image: &[u8],
-    insts: &[u64],
+    insts: &[u8],
     labels: &[Label],
     count: u64,
     m: &mut Machine,
     limit: u64,
-    dumps: &mut [u64],
+    dumps: &mut [u8],
 ) -> Ran
     ensures { λ r. ⌜ runCall (now (image .entry)) (now (insts .entry)) (now (labels .entry)) count (now (m .entry)) limit (now (dumps .entry)) ≡ record { ending = r .ending; steps = r .steps; dumped = r .dumped; machine = now (m .exit); dumps = now (dumps .exit) } ⌝ }
 {

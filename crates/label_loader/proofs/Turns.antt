@@ -15,7 +15,8 @@ use Rattle.machine.specs.Limits.{instLimit}
 use Rattle.machine.specs.declared.Label.{Label}
 use Rattle.machine.specs.Load.{head, linked, Load, rejects, accepts, load, labelsAfter}
 use Rattle.tables.specs.Tables.{inst, instsOf}
-use Rattle.tables.proofs.Laws.{length-records, sets-behind}
+use Rattle.tables.proofs.Numbers.{sets-behind}
+use Rattle.tables.proofs.Laws.{length-records}
 use Rattle.loader.specs.declared.Pending.{Pending}
 use Rattle.loader.specs.declared.Loading.{Loading}
 use Rattle.loader.specs.Loading.{refuses, starts, freshAt, means}
@@ -47,7 +48,7 @@ module _ (image insts₀ : List ℕ) (labels₀ : List Label) where
 
   -- what `begin` says
   abbrev pub Began : Pending → Type 0
-  Began p = (is : List Inst) (ls : List Label) → length is ≡ length insts₀ / 4 → length ls ≡ room → Begins image (load image is ls) p
+  Began p = (is : List Inst) (ls : List Label) → length is ≡ length insts₀ / 32 → length ls ≡ room → Begins image (load image is ls) p
 
   abbrev pub Holds : Pending → List ℕ → List Label → Type 0
   Holds = under.Underway image insts₀ labels₀ (λ ls. ls) room given
@@ -78,7 +79,7 @@ module _ (image insts₀ : List ℕ) (labels₀ : List Label) where
     pub inside : x .p .index < length (x .labels)
     inside = let k = x .holds .fits on in let n = x .holds .labels-long in omega (arith, k .1, k .3, n)
 
-    pub fit : (instLimit * 4 ≤ length (x .insts)) × (x .p .count ≤ instLimit)
+    pub fit : (instLimit * 32 ≤ length (x .insts)) × (x .p .count ≤ instLimit)
     fit = let k = x .holds .fits on in let n = x .holds .insts-long in (omega (arith, k .0, n), k .2)
 
     module _ (q : Pending) (insts′ : List ℕ) (labels′ : List Label) (f : Fills image (x .insts) (x .p) q insts′) where

@@ -14,7 +14,7 @@ unfoldable pub linkedAt : List Label → ℕ → ℕ → ℕ → ℕ → List La
 linkedAt labels index start len target =
     set (set labels index (record { start = start; len = len; target = target; next = getD labels 0 (head 0) .next })) 0 (head index)
 
--- the load of document 01 with the instruction table lent as numbers
+-- the load of document 01 with the instruction table lent as bytes
 abbrev pub loadOf : List ℕ → List ℕ → List Label → Load
 loadOf image insts labels = load image (instsOf insts) labels
 

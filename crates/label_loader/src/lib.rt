@@ -32,7 +32,7 @@ fn link(labels: &mut [Label], index: usize, start: u64, len: u64, target: u64)
 }
 
 // The call: only this function and `link` hold the label table.
-pub fn from_binary(image: &[u8], insts: &mut [u64], labels: &mut [Label]) -> Loading
+pub fn from_binary(image: &[u8], insts: &mut [u8], labels: &mut [Label]) -> Loading
     ensures { λ r. ⌜ FromBinary (now (image .entry)) (now (insts .entry)) (now (labels .entry)) r (now (insts .exit)) (now (labels .exit)) ⌝ }
 {
     let mut p = begin(image, insts.len() / RECORD, labels.len());

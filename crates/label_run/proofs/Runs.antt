@@ -1,5 +1,5 @@
 -- A run where a turn of `execute_program` begins, over plain values. Assumes nothing.
-use Prim.Native.Nat.{ℕ, _≤_, _<_, _-_, _^_}
+use Prim.Native.Nat.{ℕ, _≤_, _<_, _-_, _/_, _^_}
 use mathlib.Core.Path.{_≡_, _∙_, refl}
 use mathlib.Core.Bool.{true, false}
 use mathlib.Core.List.{List}
@@ -20,7 +20,7 @@ use Rattle.known.specs.Known.{knownLimit, unknown}
 use Rattle.run.specs.declared.progress.Progress.{Progress}
 use Rattle.run.specs.declared.Ran.{Ran}
 use Rattle.run.specs.Turns.{endingOf}
-use Rattle.run.specs.Runs.{Begun, Ready, Advances, Stands, weight, answer}
+use Rattle.run.specs.Runs.{Begun, Ready, Advances, Stands, weight, answer, runBytes}
 use Rattle.run.proofs.Edges.{reports}
 use Rattle.run.proofs.Running.{ready}
 
@@ -45,7 +45,7 @@ module _ (image insts : List ℕ) (labels : List Label) (count limit : ℕ) (m :
     pub memory : List ℕ
     pub keys : List ℕ
     pub targets : List ℕ
-    pub stands : Stands program insts buffer limit (definition.course program limit (length buffer) m) o dumps keys targets stack calls memory
+    pub stands : Stands program insts buffer limit (definition.course program limit (length buffer / 8) m) o dumps keys targets stack calls memory
     pub long : length dumps ≡ length buffer
 
   abbrev pub Lower : State → State → Type 0
@@ -84,16 +84,16 @@ module _ (image insts : List ℕ) (labels : List Label) (count limit : ℕ) (m :
           memory = memory;
           keys = keys;
           targets = targets;
-          stands = led labels buffer limit (definition.course program limit (length buffer) m) on (t .stands) (finds (instsOf insts)) .stands;
+          stands = led labels buffer limit (definition.course program limit (length buffer / 8) m) on (t .stands) (finds (instsOf insts)) .stands;
           long = long ∙ t .long;
         }
 
         pub lower : weight image r < weight image (t .o)
-        lower = led labels buffer limit (definition.course program limit (length buffer) m) on (t .stands) (finds (instsOf insts)) .falls
+        lower = led labels buffer limit (definition.course program limit (length buffer / 8) m) on (t .stands) (finds (instsOf insts)) .falls
 
     module _ (off : t .o .on ≡ false) where
       pub fewer : t .o .left ≤ limit
       fewer = t .stands .reached off .fewer
 
-      pub over : answer (packed limit (t .o) (t .stack) (t .calls) (t .memory)) (t .dumps) ≡ definition.run program limit buffer m
+      pub over : answer (packed limit (t .o) (t .stack) (t .calls) (t .memory)) (t .dumps) ≡ runBytes program limit buffer m
       over = reports program m limit buffer (t .o) (t .dumps) (t .stack) (t .calls) (t .memory) (t .stands .reached off)

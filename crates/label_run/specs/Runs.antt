@@ -4,16 +4,16 @@ use mathlib.Core.Path.{_≡_}
 use mathlib.Core.List.{List}
 use Rattle.machine.specs.declared.Label.{Label}
 use Rattle.machine.specs.declared.Machine.{Machine}
-use Rattle.machine.specs.Run.{Result, run}
+use Rattle.machine.specs.Run.{Result}
 use Rattle.tables.specs.Tables.{instsOf}
 use Rattle.lookup.specs.Walks.{lent}
 use Rattle.run.specs.declared.Ran.{Ran}
-use Rattle.run.specs.Runs.{answer}
+use Rattle.run.specs.Runs.{answer, runBytes}
 use Rattle.label_run.specs.declared.Report.{Report}
 
--- the run of document 01 with the instruction table lent as numbers
+-- the run of document 01 with the instruction table lent as bytes
 abbrev pub runOf : (image insts : List ℕ) (labels : List Label) → ℕ → Machine → ℕ → List ℕ → Result
-runOf image insts labels count m limit dumps = run (lent image (instsOf insts) labels count) limit dumps m
+runOf image insts labels count m limit dumps = runBytes (lent image (instsOf insts) labels count) limit dumps m
 
 -- the promise of a run by value: its answer, and the buffer that it leaves
 abbrev pub ExecuteProgram : (image insts : List ℕ) (labels : List Label) → ℕ → Machine → ℕ → List ℕ → Ran → List ℕ → Type 0

@@ -33,12 +33,12 @@ pub fn lookup(image: &[u8], labels: &[Label], count: usize, start: u64, len: u64
 // A run over the machine by value, as crate run's execute_program.
 pub fn execute_program(
     image: &[u8],
-    insts: &[u64],
+    insts: &[u8],
     labels: &[Label],
     count: usize,
     m: Machine,
     limit: u64,
-    dumps: &mut [u64],
+    dumps: &mut [u8],
 ) -> Ran
     ensures { λ r. ⌜ ExecuteProgram (now (image .entry)) (now (insts .entry)) (now (labels .entry)) count m limit (now (dumps .entry)) r (now (dumps .exit)) ⌝ }
 {
@@ -82,12 +82,12 @@ pub struct Report {
 // A run over a machine that is lent: the machine that the run leaves stands in its place.
 pub fn execute_in_place(
     image: &[u8],
-    insts: &[u64],
+    insts: &[u8],
     labels: &[Label],
     count: usize,
     m: &mut Machine,
     limit: u64,
-    dumps: &mut [u64],
+    dumps: &mut [u8],
 ) -> Report
     ensures { λ r. ⌜ ExecuteInPlace (now (image .entry)) (now (insts .entry)) (now (labels .entry)) count (now (m .entry)) limit (now (dumps .entry)) r (now (m .exit)) (now (dumps .exit)) ⌝ }
 {

@@ -13,7 +13,7 @@ use Rattle.inst_decode.specs.Decode.{fromBytes}
 use Rattle.inst.proofs.Laws.{never}
 use Rattle.machine.specs.declared.Label.{Label}
 use Rattle.machine.specs.Load.{halt, linked, Scan, scanOne, closed, Loaded, accepts}
-use Rattle.tables.specs.Tables.{numbersOf, instNumbers}
+use Rattle.tables.specs.Tables.{bytesOf, instNumbers, instBytes}
 use Rattle.loader.specs.declared.Counts.{Counts}
 use Rattle.loader.specs.declared.Pending.{Pending}
 use Rattle.loader.specs.declared.Next.{Next}
@@ -59,7 +59,7 @@ module _ (image insts₀ : List ℕ) (p : Pending) where
   module _ (c : Counts) (insts : List ℕ) (f : Leads image insts₀ p c insts) where
     -- at the image's end
     pub fills-end : length image ≤ c .at → (insts′ : List ℕ)
-        → insts′ ≡ cond (ltb (c .insts) (p .count)) (sets insts (c .insts * 4) (instNumbers halt)) insts → (q : Pending) → q ≡ endedAt p → Fills image insts₀ p q insts′
+        → insts′ ≡ cond (ltb (c .insts) (p .count)) (sets insts (c .insts * 32) (bytesOf (instNumbers halt))) insts → (q : Pending) → q ≡ endedAt p → Fills image insts₀ p q insts′
     unfolding left StopsOrEnds
     fills-end h insts′ t q e =
         rw e (record {
@@ -73,9 +73,9 @@ module _ (image insts₀ : List ℕ) (p : Pending) where
                 record { accepted-is = a .accepted-is; ip-is = a .ip-is; count-is = a .count-is },
                 record {
                   all-insts = t
-                      ∙ ap (λ (m : ℕ). cond (ltb (c .insts) m) (sets insts (c .insts * 4) (instNumbers halt)) insts) n
+                      ∙ ap (λ (m : ℕ). cond (ltb (c .insts) m) (sets insts (c .insts * 32) (bytesOf (instNumbers halt))) insts) n
                       ∙ halt-more xs insts (r .to .insts) (c .insts) (insts-of image c (r .to) (r .counts-are)) (r .has-insts)
-                      ∙ ap (λ (is : List Inst). sets xs 0 (numbersOf instNumbers is)) (sym (k .insts-are));
+                      ∙ ap (λ (is : List Inst). sets xs 0 (instBytes is)) (sym (k .insts-are));
                   all-labels = sym (k .labels-are ∙ r .labels-same);
                 },
               );
@@ -95,14 +95,14 @@ module _ (image insts₀ : List ℕ) (p : Pending) where
                 never-both n l (refuses-there image (accepts l) c (r .to) (r .counts-are) (r .has-head) (r .rest) h n (sym w ∙ g (r .to) (r .has-head) (r .counts-are)));
           })
 
-      module _ (d : Counts) (i : Inst) (w : x ≡ Read d i) (b : Further (length image) c d i) (insts′ : List ℕ) (t : insts′ ≡ sets insts (c .insts * 4) (instNumbers i)) where
+      module _ (d : Counts) (i : Inst) (w : x ≡ Read d i) (b : Further (length image) c d i) (insts′ : List ℕ) (t : insts′ ≡ sets insts (c .insts * 32) (bytesOf (instNumbers i))) where
         pass : (xs : List ℕ) (l : Loaded) (s : Scan) → (r : Reached image xs l s c insts) → Passes image (accepts l) c d (r .to) i
         pass xs l s r = passes image (accepts l) c (r .to) (r .counts-are) (r .has-head) (r .rest) h d i (b .moves) (sym w ∙ g (r .to) (r .has-head) (r .counts-are))
 
         stored : (xs : List ℕ) (l : Loaded) (s : Scan) → (r : Reached image xs l s c insts) → HasInsts xs (pass xs l s r .to) insts′
         stored xs l s r =
             let k = pass xs l s r in
-            t ∙ inst-more xs insts (r .to .insts) i (c .insts) (insts-of image c (r .to) (r .counts-are)) (r .has-insts) ∙ ap (λ is. sets xs 0 (numbersOf instNumbers is)) (sym (k .grows .insts-are))
+            t ∙ inst-more xs insts (r .to .insts) i (c .insts) (insts-of image c (r .to) (r .counts-are)) (r .has-insts) ∙ ap (λ is. sets xs 0 (instBytes is)) (sym (k .grows .insts-are))
 
         -- an instruction that is no label
         pub leads-more : (i .typ ≡ 21 → ⊥) → Leads image insts₀ p d insts′

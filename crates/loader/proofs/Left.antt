@@ -1,4 +1,4 @@
--- The numbers that a call leaves are the records that document 01's load leaves. Assumes nothing.
+-- The bytes that a call leaves are the records that document 01's load leaves. Assumes nothing.
 use Prim.Native.Nat.{ℕ}
 use mathlib.Core.Path.{_≡_, refl}
 use mathlib.Core.List.{List}

@@ -8,4 +8,4 @@ mod Loads
 mod Stores
 mod Fillings
 pub mod Underway
-mod LentNumbers
+mod LentBytes

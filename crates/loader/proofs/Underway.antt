@@ -10,7 +10,7 @@ use Rattle.inst.proofs.Laws.{never}
 use Rattle.machine.specs.Limits.{instLimit, labelRecords}
 use Rattle.machine.specs.declared.Label.{Label}
 use Rattle.machine.specs.Load.{Scan, begin, Loaded, Load, rejects, accepts, fresh}
-use Rattle.tables.specs.Tables.{numbersOf, instNumbers}
+use Rattle.tables.specs.Tables.{numbersOf, bytesOf, instBytes}
 use Rattle.loader.specs.declared.Pending.{Pending}
 use Rattle.loader.specs.declared.Loading.{Loading}
 use Rattle.loader.specs.Loading.{refuses, starts, answerOf, freshAt, means, instsLeft}
@@ -31,7 +31,7 @@ module _ {B : Type 0} (image insts₀ : List ℕ) (labels₀ : List B) (slots : 
     pub has-labels : labels ≡ holding before
 
   pub record Filled (l : Loaded) (insts : List ℕ) (labels : List B) : Type 0 where
-    pub all-insts : insts ≡ sets insts₀ 0 (numbersOf instNumbers (l .insts))
+    pub all-insts : insts ≡ sets insts₀ 0 (instBytes (l .insts))
     pub all-labels : labels ≡ holding (l .labels)
 
   unfoldable pub LinkingOrFilled : Bool → Loaded → Pending → List ℕ → List B → Type 0
@@ -51,7 +51,7 @@ module _ {B : Type 0} (image insts₀ : List ℕ) (labels₀ : List B) (slots : 
 
   -- where a label is to be linked there is room for it
   abbrev pub Fits : Pending → Type 0
-  Fits p = p .on ≡ true → (instLimit ≤ length insts₀ / 4) × (labelRecords ≤ room) × (p .count ≤ instLimit) × (p .index < labelRecords)
+  Fits p = p .on ≡ true → (instLimit ≤ length insts₀ / 32) × (labelRecords ≤ room) × (p .count ≤ instLimit) × (p .index < labelRecords)
 
   pub record Underway (p : Pending) (insts : List ℕ) (labels : List B) : Type 0 where
     pub insts-long : length insts ≡ length insts₀
@@ -71,7 +71,7 @@ module _ {B : Type 0} (image insts₀ : List ℕ) (labels₀ : List B) (slots : 
 
   -- as it begins
   begun : (x : Load) (p : Pending) → labels₀ ≡ holding [] → Begins image x p → State x p insts₀ labels₀
-  unfolding Begins State LinkingOrFilled numbersOf
+  unfolding Begins State LinkingOrFilled numbersOf bytesOf
   begun (rejects n) p e b = record { off = b .0; refused-is = b .1; number-is = b .2; insts-same = refl; labels-same = refl }
   begun (accepts l) p e b = (
     b .1,

@@ -3,22 +3,22 @@ use Prim.Native.Nat.{ℕ, suc, _+_, _*_, _-_, _≤_, _<_}
 use mathlib.Core.Path.{_≡_}
 use mathlib.Core.Bool.{Bool, true, false}
 use mathlib.Core.List.{List, [], _∷_}
-use lib.ListN.{length, getD}
+use lib.ListN.{length}
 use lib.Seq.{sets}
 use Rattle.inst.specs.declared.Inst.{Inst}
 use Rattle.inst.specs.Records.{named}
 use Rattle.machine.specs.Limits.{labelRecords}
 use Rattle.machine.specs.declared.Label.{Label}
 use Rattle.machine.specs.Load.{head, linked, Scan, begin, scan, Loaded, Load, rejects, accepts, finished, countOf}
-use Rattle.tables.specs.Tables.{numbersOf, instNumbers}
+use Rattle.tables.specs.Tables.{numberAt, bytesOf, instBytes}
 use Rattle.loader.specs.declared.Counts.{Counts}
 use Rattle.loader.specs.declared.Pending.{Pending}
 use Rattle.loader.specs.Reading.{countsOf}
 
--- a label record at an index of a table's numbers, linked first: it leads to what the head led to, and the head to it
+-- a label record at an index of a table's bytes, linked first: it leads to what the head led to, and the head to it
 unfoldable pub linkedAt : List ℕ → ℕ → ℕ → ℕ → ℕ → List ℕ
 linkedAt labels index start len target =
-    sets (sets labels (index * 4) (start ∷ len ∷ target ∷ getD labels 3 0 ∷ [])) 0 (0 ∷ 0 ∷ 0 ∷ index ∷ [])
+    sets (sets labels (index * 32) (bytesOf (start ∷ len ∷ target ∷ numberAt labels 3 ∷ []))) 0 (bytesOf (0 ∷ 0 ∷ 0 ∷ index ∷ []))
 
 -- the same of records; the first record is the head
 unfoldable pub linkedOn : Pending → List Label → List Label
@@ -78,7 +78,7 @@ pub record Paused (image : List ℕ) (l : Loaded) (before : List Label) (s : Sca
 
 -- the instructions up to s are in the table, of which xs is what was lent
 abbrev pub HasInsts : List ℕ → Scan → List ℕ → Type 0
-HasInsts xs s insts = insts ≡ sets xs 0 (numbersOf instNumbers (s .insts))
+HasInsts xs s insts = insts ≡ sets xs 0 (instBytes (s .insts))
 
 -- the next label is to be linked, or all instructions are in the table and no label is left
 pub record Stops (image xs : List ℕ) (l : Loaded) (before : List Label) (p : Pending) (insts : List ℕ) : Type 0 where
@@ -87,7 +87,7 @@ pub record Stops (image xs : List ℕ) (l : Loaded) (before : List Label) (p : P
   pub has-insts : HasInsts xs scan insts
 
 pub record Ends (xs : List ℕ) (l : Loaded) (before : List Label) (insts : List ℕ) : Type 0 where
-  pub all-insts : insts ≡ sets xs 0 (numbersOf instNumbers (l .insts))
+  pub all-insts : insts ≡ sets xs 0 (instBytes (l .insts))
   pub all-labels : before ≡ l .labels
 
 unfoldable pub StopsOrEnds : Bool → List ℕ → List ℕ → Loaded → List Label → Pending → List ℕ → Type 0

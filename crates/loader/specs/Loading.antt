@@ -5,7 +5,7 @@ use mathlib.Core.List.{List, []}
 use lib.Seq.{sets}
 use Rattle.machine.specs.declared.Machine.{Machine}
 use Rattle.machine.specs.Load.{Load, rejects, accepts, load, fresh, countOf}
-use Rattle.tables.specs.Tables.{instsOf, labelsOf, numbersOf, instNumbers, labelNumbers}
+use Rattle.tables.specs.Tables.{instsOf, labelsOf, instBytes, labelBytes}
 use Rattle.loader.specs.declared.Loading.{Loading}
 use Rattle.loader.specs.declared.Loading.the-variants.{Refused, Accepted}
 
@@ -31,16 +31,16 @@ unfoldable pub numberIn : Answer → ℕ
 numberIn (refuses n) = n
 numberIn (starts m count) = 0
 
--- a lent table's numbers after the call: a refusal writes nothing; the records from the front on, what is past them as it was
+-- a lent table's bytes after the call: a refusal writes nothing; the records from the front on, what is past them as it was
 unfoldable pub instsLeft : Load → List ℕ → List ℕ
 instsLeft (rejects n) insts = insts
-instsLeft (accepts l) insts = sets insts 0 (numbersOf instNumbers (l .insts))
+instsLeft (accepts l) insts = sets insts 0 (instBytes (l .insts))
 
 unfoldable pub labelsLeft : Load → List ℕ → List ℕ
 labelsLeft (rejects n) labels = labels
-labelsLeft (accepts l) labels = sets labels 0 (numbersOf labelNumbers (l .labels))
+labelsLeft (accepts l) labels = sets labels 0 (labelBytes (l .labels))
 
--- the load of document 01 with tables that are lent as numbers
+-- the load of document 01 with tables that are lent as bytes
 abbrev pub loadOf : List ℕ → List ℕ → List ℕ → Load
 loadOf image insts labels = load image (instsOf insts) (labelsOf labels)
 

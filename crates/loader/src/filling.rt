@@ -12,7 +12,7 @@ ghost use Rattle.inst.specs.declared.Inst.{Inst};
 ghost use Rattle.machine.specs.declared.Label.{Label};
 ghost use Rattle.machine.specs.Limits.{instLimit, labelRecords};
 ghost use Rattle.machine.specs.Load.{halt, load};
-ghost use Rattle.tables.specs.Tables.{instNumbers};
+ghost use Rattle.tables.specs.Tables.{bytesOf, instNumbers};
 ghost use Rattle.loader.specs.Loading.{means, numberIn, refuses, starts, freshAt};
 ghost use Rattle.loader.specs.Filling.{linkedAt, pausedAt, endedAt, Begins, Fills};
 use crate::Counts;
@@ -28,14 +28,15 @@ use crate::reading::first;
 use crate::reading::next_inst;
 use inst::Inst;
 use inst::form_table;
+use tables::number_at;
 use tables::put;
 
 // A label record, linked first: it leads to what the head led to, and the head to it. Index 0 makes the head itself, zero.
-pub fn link(labels: &mut [u64], index: usize, start: u64, len: u64, target: u64)
-    requires { ⌜ index * 4 + 4 ≤ length (now labels) ⌝ }
+pub fn link(labels: &mut [u8], index: usize, start: u64, len: u64, target: u64)
+    requires { ⌜ index * 32 + 32 ≤ length (now labels) ⌝ }
     ensures { λ _. ⌜ now (labels .exit) ≡ linkedAt (now (labels .entry)) index start len target ⌝ }
 {
-    let next = labels[3];
+    let next = number_at(labels, 3);
     put(labels, index, start, len, target, next);
     put(labels, 0, 0, 0, 0, index as u64);
 }
@@ -98,9 +99,9 @@ pub fn begin(image: &[u8], insts: usize, labels: usize) -> Pending
 }
 
 // HALT behind the instructions, where the first pass counted it.
-fn close(insts: &mut [u64], index: usize, count: usize)
-    requires { ⌜ count * 4 ≤ length (now insts) ⌝ }
-    ensures { λ _. ⌜ now (insts .exit) ≡ cond (ltb index count) (sets (now (insts .entry)) (index * 4) (instNumbers halt)) (now (insts .entry)) ⌝ }
+fn close(insts: &mut [u8], index: usize, count: usize)
+    requires { ⌜ count * 32 ≤ length (now insts) ⌝ }
+    ensures { λ _. ⌜ now (insts .exit) ≡ cond (ltb index count) (sets (now (insts .entry)) (index * 32) (bytesOf (instNumbers halt))) (now (insts .entry)) ⌝ }
 {
     if index < count {
         put(insts, index, HALT, 0, 0, 0);
@@ -145,8 +146,8 @@ fn ended(p: Pending) -> Pending
 }
 
 // The instructions on the way to the next LABEL or to the end. The refusal is never met: the first pass found none.
-pub fn fill(image: &[u8], insts: &mut [u64], p: Pending) -> Pending
-    requires { ⌜ (instLimit * 4 ≤ length (now insts)) × (p .count ≤ instLimit) ⌝ }
+pub fn fill(image: &[u8], insts: &mut [u8], p: Pending) -> Pending
+    requires { ⌜ (instLimit * 32 ≤ length (now insts)) × (p .count ≤ instLimit) ⌝ }
     ensures { λ r. ⌜ Fills (now (image .entry)) (now (insts .entry)) p r (now (insts .exit)) ⌝ }
 {
     let forms = form_table();

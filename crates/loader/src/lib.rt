@@ -90,7 +90,7 @@ pub fn fresh(ip: usize) -> Machine
 }
 
 // The call: only this function and `link` hold the label table.
-pub fn from_binary(image: &[u8], insts: &mut [u64], labels: &mut [u64]) -> Loading
+pub fn from_binary(image: &[u8], insts: &mut [u8], labels: &mut [u8]) -> Loading
     ensures { λ r. ⌜ FromBinary (now (image .entry)) (now (insts .entry)) (now (labels .entry)) r (now (insts .exit)) (now (labels .exit)) ⌝ }
 {
     let mut p = begin(image, insts.len() / RECORD, labels.len() / RECORD);

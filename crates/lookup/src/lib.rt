@@ -123,7 +123,7 @@ pub fn begin(image: &[u8], records: usize, start: u64, len: u64) -> Walk
 
 // What the lookup of a name finds: 1 no such label in the program, 2 a chain that 34 names, 3 + t the target t. 0 says that
 // the name doesn't lie in the image, so that no jump has it.
-pub fn lookup(image: &[u8], labels: &[u64], count: usize, start: u64, len: u64) -> u64
+pub fn lookup(image: &[u8], labels: &[u8], count: usize, start: u64, len: u64) -> u64
     ensures { λ r. ⌜ ((insts : List Inst) → Finds (lent (now (image .entry)) insts (labelsOf (now (labels .entry))) count) start len r) ⌝ }
 {
     let mut w = begin(image, labels.len() / RECORD, start, len);

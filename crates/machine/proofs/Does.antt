@@ -1,88 +1,65 @@
--- What one step does, for each instruction and every machine: the effect on height, on the call stack and on the pointer, and what a trap leaves.
+-- What one step does, for each instruction and every machine: what it changes, and what a trap leaves.
 -- Assumes nothing.
-use Prim.Native.Nat.{ℕ, _+_, _-_, _≤_, _<_}
+use Prim.Native.Nat.{ℕ, suc, _+_, _-_, _≤_, _<_}
 use mathlib.Core.Path.{_≡_, refl, sym, ap, _∙_}
-use mathlib.Core.Bool.{Bool, true, false, _&&_}
-use mathlib.Core.List.{List, [], _∷_}
+use mathlib.Core.Bool.{Bool, true, false, _&&_, _||_}
+use mathlib.Core.List.{List, [], _∷_, _++_, map}
 use native.Mathlib.Omega.{arith}
 use lib.Dec.{eqb, leb, lit≤}
 use lib.IntN.{ℤ, pos, negℤ, _+ℤ_}
 use lib.ListN.{getD, set}
-use borrow.Author.Tests.{ltb-true, leb-true}
+use borrow.Author.Tests.{ltb-true, leb-true, lt-ltb}
 use Rattle.flag.specs.Flags.{isSet}
 use Rattle.integer.specs.Integers.{inc, dec}
 use Rattle.inst.specs.declared.Inst.{Inst}
 use Rattle.machine.specs.declared.Machine.{Machine}
 use Rattle.machine.specs.Limits.{stackLimit, callLimit}
-use Rattle.machine.specs.Lookup.{Program, Found, illChain, noLabel, leadsTo, lookup}
-use Rattle.machine.specs.Change.{callHeight, withStack, withCalls, withMemory, withFlags, moved, stopped, onward, poppedBy, stacked}
+use Rattle.machine.specs.Lookup.{Program, Found, illChain, noLabel, leadsTo}
+use Rattle.machine.specs.Change.{callHeight, withStack, withCalls, withMemory, withFlags, moved, stopped, onward, top, poppedBy}
 use Rattle.machine.specs.Step.{Stepped, succeeds, outputs, trap, ill, Integer, Float, Conversion, Op, NOP, PUSH, POP, INC, DEC, CMP, SWAP, DUP, BOT, JCC, JMP, CALL, RET, DMP, READ, WRITE, HALT, integer, float, conversion, push, pop, adjust, integerStep, floatStep, compare, swap, dup, bot, jumpIf, jump, callTo, call, ret, dump, convert, read, write, exec, opOf, instAt, wellState, step}
-use Rattle.machine.specs.Effects.{Effects, Calls, opens, closes, keeps, listed, effects, lostAt, lost}
+use Rattle.machine.specs.Effects.{Effects, Calls, opens, closes, keeps, callGain, listed, effects, lostAt, lost}
 use Rattle.machine.specs.History.{effectsAt}
-use Rattle.machine.specs.Steps.{CallsLeft, TrapLeft, TrapsLeave}
+use Rattle.machine.specs.Touches.{Pointer, past, toLabel, toPopped, Touches, only, cells, slotAt, touches}
+use Rattle.machine.specs.Steps.{CallsLeft, TrapLeft, TrapsLeave, Except, PointerIs, Touched, touchesAt, foundAt, StepsTouch}
 use Rattle.inst.proofs.Laws.{by-test, never, and-left, and-right}
 use Rattle.machine.proofs.Cases.{must-case, level, less-by}
+use Rattle.machine.proofs.Lists.{unchanged, stored, one}
 
--- the call stack after a step that didn't trap, by the instruction's effect on it; G holds of a pointer where the machine may stand
-unfoldable pub CallsAre : (ℕ → Type 0) → Calls → Machine → Machine → Type 0
-CallsAre G keeps m m' = (m' .calls ≡ m .calls) × (callHeight m' ≡ callHeight m) × G (m' .ip)
-CallsAre G opens m m' =
-    (callHeight m < callLimit) × (m' .calls ≡ set (m .calls) (callHeight m) (m .ip + 1)) × (callHeight m' ≡ callHeight m + 1) × G (m .ip + 1) × G (m' .ip)
-CallsAre G closes m m' =
-    (0 < callHeight m) × (m' .calls ≡ m .calls) × (callHeight m' ≡ callHeight m - 1) × (m' .ip ≡ getD (m .calls) (callHeight m - 1) 0)
+-- the call stack after a step that didn't trap, by the instruction's effect on it
+unfoldable pub CallsAre : Calls → Machine → Machine → Type 0
+CallsAre keeps m m' = (m' .calls ≡ m .calls) × (callHeight m' ≡ callHeight m)
+CallsAre opens m m' = (callHeight m < callLimit) × (m' .calls ≡ set (m .calls) (callHeight m) (m .ip + 1)) × (callHeight m' ≡ callHeight m + 1)
+CallsAre closes m m' = (0 < callHeight m) × (m' .calls ≡ m .calls) × (callHeight m' ≡ callHeight m - 1)
 
-pub record Moves (G : ℕ → Type 0) (e : Effects) (m m' : Machine) : Type 0 where
-  pub gained : pos (m' .height) ≡ pos (m .height) +ℤ e .gain
+call-gains : (k : Calls) (m m' : Machine) → CallsAre k m m' → pos (callHeight m') ≡ pos (callHeight m) +ℤ callGain k
+unfolding CallsAre callGain
+call-gains keeps m m' c = ap pos (c .1) ∙ level (callHeight m)
+call-gains opens m m' c = ap pos (c .2)
+call-gains closes m m' c = ap pos (c .2) ∙ less-by (callHeight m) 1 (c .0)
+
+pub record Moves (e : Effects) (w : Touches) (found : Found) (m : Machine) (dumped : List ℕ) (m' : Machine) : Type 0 where
   pub limited : m .height ≤ stackLimit → m' .height ≤ stackLimit
-  pub called : CallsAre G (e .on-calls) m m'
+  pub called : CallsAre (e .on-calls) m m'
+  pub touched : Touched e w found m dumped m'
 
 -- 27 is only where an address was stacked
-unfoldable pub Room : (ℕ → Type 0) → Calls → ℕ → Machine → Type 0
-Room G keeps t m = eqb t 27 ≡ false
-Room G opens t m = eqb t 27 ≡ true → (callHeight m < callLimit) × G (m .ip + 1)
-Room G closes t m = eqb t 27 ≡ false
+unfoldable pub Room : Calls → ℕ → Machine → Type 0
+Room keeps t m = eqb t 27 ≡ false
+Room opens t m = eqb t 27 ≡ true → callHeight m < callLimit
+Room closes t m = eqb t 27 ≡ false
 
 -- I holds where a lookup may find an ill chain
-unfoldable pub Does : (ℕ → Type 0) → Type 0 → Effects → Machine → Stepped → Type 0
-Does G I e m (succeeds m') = Moves G e m m'
-Does G I e m (outputs c m') = Moves G e m m'
-Does G I e m (trap t m') = TrapLeft e t m m' × Room G (e .on-calls) t m
-Does G I e m ill = I
-
--- HALT is the one instruction behind which the pointer is not always one further or at a target
-unfoldable pub halts : Op → Bool
-halts NOP = false
-halts PUSH = false
-halts POP = false
-halts INC = false
-halts DEC = false
-halts CMP = false
-halts SWAP = false
-halts DUP = false
-halts BOT = false
-halts JCC = false
-halts JMP = false
-halts CALL = false
-halts RET = false
-halts DMP = false
-halts READ = false
-halts WRITE = false
-halts HALT = true
-halts (integer k) = false
-halts (float k) = false
-halts (conversion k) = false
+unfoldable pub Does : Type 0 → Effects → Touches → Found → Machine → Stepped → Type 0
+Does I e w found m (succeeds m') = Moves e w found m [] m'
+Does I e w found m (outputs c m') = Moves e w found m (c ∷ []) m'
+Does I e w found m (trap t m') = TrapLeft e t m m' × Room (e .on-calls) t m
+Does I e w found m ill = I
 
 -- a trap's number is one of 20 to 32
 abbrev numbered : ℕ → Bool
 numbered t = leb 20 t && leb t 32
 
-module _ (G : ℕ → Type 0) (I : Type 0) (m : Machine) where
-  -- where the machine may stand after a lookup
-  unfoldable pub Leads : Found → Type 0
-  Leads illChain = I
-  Leads noLabel = Unit {0}
-  Leads (leadsTo i) = G i
-
+module _ (I : Type 0) (m : Machine) where
   -- a trap that leaves the machine as it was
   as-it-was : (e : Effects) (t : ℕ) → numbered t ≡ true → lost e t ≡ 0 → eqb t 27 ≡ false → TrapLeft e t m m
   unfolding CallsLeft
@@ -100,242 +77,294 @@ module _ (G : ℕ → Type 0) (I : Type 0) (m : Machine) where
         halted-is = refl;
       }
 
-  untouched : (g : ℤ) (n : ℕ) (ts : List ℕ) (t : ℕ) → numbered t ≡ true → lostAt n ts t ≡ 0 → eqb t 27 ≡ false → Does G I (listed g n ts keeps) m (trap t m)
-  unfolding Does Room
-  untouched g n ts t d z o = (as-it-was (listed g n ts keeps) t d z o, o)
+  module _ (w : Touches) (found : Found) where
+    untouched : (g : ℤ) (n : ℕ) (ts : List ℕ) (t : ℕ) → numbered t ≡ true → lostAt n ts t ≡ 0 → eqb t 27 ≡ false
+        → Does I (listed g n ts keeps) w found m (trap t m)
+    unfolding Does Room
+    untouched g n ts t d z o = (as-it-was (listed g n ts keeps) t d z o, o)
 
-  -- a trap that pops n cells
-  loses : (g : ℤ) (n : ℕ) (ts : List ℕ) (t : ℕ) → numbered t ≡ true → lostAt n ts t ≡ n → eqb t 27 ≡ false → n ≤ m .height
-      → Does G I (listed g n ts keeps) m (trap t (poppedBy n m))
-  unfolding Does CallsLeft Room withStack
-  loses g n ts t d z o l = (
-    record {
-      number-from = leb-true 20 t (and-left _ _ d);
-      number-to = leb-true t 32 (and-right (leb 20 t) _ d);
-      enough = rw z l;
-      height-is = rw z;
-      stack-is = refl;
-      calls-are = rw o (refl, refl);
-      memory-is = refl;
-      flags-are = refl;
-      pointer-is = refl;
-      halted-is = refl;
-    },
-    o,
-  )
-
-  -- a step to m' that leaves the call stack, with the effect d on the height
-  on : (d : ℤ) (n : ℕ) (ts : List ℕ) (m' : Machine) → pos (m' .height) ≡ pos (m .height) +ℤ d → (m .height ≤ stackLimit → m' .height ≤ stackLimit)
-      → m' .calls ≡ m .calls → callHeight m' ≡ callHeight m → G (m' .ip) → Does G I (listed d n ts keeps) m (succeeds m')
-  unfolding Does CallsAre
-  on d n ts m' h l c e g = record { gained = h; limited = l; called = (c, e, g) }
-
-  -- the same with k cells less
-  less : (k n : ℕ) (ts : List ℕ) (m' : Machine) → k ≤ m .height → m' .height ≡ m .height - k
-      → m' .calls ≡ m .calls → callHeight m' ≡ callHeight m → G (m' .ip) → Does G I (listed (negℤ (pos k)) n ts keeps) m (succeeds m')
-  less k n ts m' l h c e g = on _ n ts m' (ap pos h ∙ less-by (m .height) k l) (λ b. rw h (omega arith)) c e g
-
-  module _ (g : G (m .ip + 1)) where
-    nop-does : Does G I (effects NOP) m (succeeds (onward m))
-    unfolding effects moved
-    nop-does = on _ 0 [] _ (level (m .height)) (λ l. l) refl refl g
-
-    push-does : (v : ℕ) → Does G I (effects PUSH) m (push v m)
-    unfolding effects push lostAt moved withStack
-    push-does v =
-        must-case (Does G I (effects PUSH) m) _ _ _ _ (untouched _ 0 [] 21 refl refl refl)
-        (λ b. on _ 0 [] _ refl (λ l. omega (arith, ltb-true (m .height) stackLimit b)) refl refl g)
-
-    pop-does : Does G I (effects POP) m (pop m)
-    unfolding effects pop lostAt moved withStack
-    pop-does =
-        must-case (Does G I (effects POP) m) _ _ _ _ (untouched _ 0 [] 20 refl refl refl)
-        (λ b. less 1 0 [] _ (ltb-true 0 (m .height) b) refl refl refl g)
-
-    adjust-does : (f : ℕ → ℕ) → Does G I (effects INC) m (adjust f m)
-    unfolding effects adjust lostAt moved withStack
-    adjust-does f =
-        must-case (Does G I (effects INC) m) _ _ _ _ (untouched _ 0 [] 20 refl refl refl)
-        (λ b. on _ 0 [] _ (level (m .height)) (λ l. l) refl refl g)
-
-    integer-does : (k : Integer) → Does G I (effects (integer k)) m (integerStep k m)
-    unfolding effects integerStep lostAt moved withStack
-    integer-does k =
-        let P = Does G I (effects (integer k)) m in
-        let ts : List ℕ = 24 ∷ 30 ∷ 31 ∷ [] in
-        must-case P _ _ _ _ (untouched _ 1 ts 20 refl refl refl) λ b.
-        let l : 1 ≤ m .height = omega (arith, leb-true 2 (m .height) b) in
-        must-case P _ _ _ _ (loses _ 1 ts 31 refl refl refl l) λ _.
-        must-case P _ _ _ _ (loses _ 1 ts 30 refl refl refl l) λ _.
-        must-case P _ _ _ _ (loses _ 1 ts 24 refl refl refl l) λ _.
-        less 1 1 ts _ l refl refl refl g
-
-    float-does : (k : Float) → Does G I (effects (float k)) m (floatStep k m)
-    unfolding effects floatStep lostAt moved withStack
-    float-does k =
-        must-case (Does G I (effects (float k)) m) _ _ _ _ (untouched _ 1 (24 ∷ 30 ∷ 31 ∷ []) 20 refl refl refl)
-        (λ b. less 1 1 _ _ (omega (arith, leb-true 2 (m .height) b)) refl refl refl g)
-
-    compare-does : Does G I (effects CMP) m (compare m)
-    unfolding effects compare lostAt moved withStack withFlags
-    compare-does =
-        must-case (Does G I (effects CMP) m) _ _ _ _ (untouched _ 0 [] 20 refl refl refl)
-        (λ b. less 1 0 [] _ (omega (arith, leb-true 2 (m .height) b)) refl refl refl g)
-
-    swap-does : (d : ℕ) → Does G I (effects SWAP) m (swap d m)
-    unfolding effects swap lostAt moved withStack
-    swap-does d =
-        must-case (Does G I (effects SWAP) m) _ _ _ _ (untouched _ 0 [] 20 refl refl refl)
-        (λ b. on _ 0 [] _ (level (m .height)) (λ l. l) refl refl g)
-
-    dup-does : (d : ℕ) → Does G I (effects DUP) m (dup d m)
-    unfolding effects dup lostAt
-    dup-does d = must-case (Does G I (effects DUP) m) _ _ _ _ (untouched _ 0 [] 20 refl refl refl) (λ _. push-does _)
-
-    bot-does : Does G I (effects BOT) m (bot m)
-    unfolding effects bot lostAt
-    bot-does = must-case (Does G I (effects BOT) m) _ _ _ _ (untouched _ 0 [] 20 refl refl refl) (λ _. push-does _)
-
-    jumpIf-does : (b : Bool) (f : Found) → Leads f → Does G I (effects JCC) m (jumpIf b f m)
-    unfolding effects jumpIf lostAt moved Leads Does
-    jumpIf-does b illChain i = i
-    jumpIf-does b noLabel i = untouched (pos 0) 0 [] 26 refl refl refl
-    jumpIf-does true (leadsTo t) i = on _ 0 [] _ (level (m .height)) (λ l. l) refl refl i
-    jumpIf-does false (leadsTo t) i = on _ 0 [] _ (level (m .height)) (λ l. l) refl refl g
-
-    callTo-does : (f : Found) → Leads f → callHeight m < callLimit → Does G I (effects CALL) m (callTo f m)
-    unfolding effects callTo lostAt Does CallsLeft Room withCalls moved CallsAre Leads
-    callTo-does illChain i l = i
-    callTo-does noLabel i l = (
+    -- a trap that pops n cells
+    loses : (g : ℤ) (n : ℕ) (ts : List ℕ) (t : ℕ) → numbered t ≡ true → lostAt n ts t ≡ n → eqb t 27 ≡ false → n ≤ m .height
+        → Does I (listed g n ts keeps) w found m (trap t (poppedBy n m))
+    unfolding Does CallsLeft Room withStack
+    loses g n ts t d z o l = (
       record {
-        number-from = lit≤ tt;
-        number-to = lit≤ tt;
-        enough = omega arith;
-        height-is = omega arith;
+        number-from = leb-true 20 t (and-left _ _ d);
+        number-to = leb-true t 32 (and-right (leb 20 t) _ d);
+        enough = rw z l;
+        height-is = rw z;
         stack-is = refl;
-        calls-are = (refl, refl);
+        calls-are = rw o (refl, refl);
         memory-is = refl;
         flags-are = refl;
         pointer-is = refl;
         halted-is = refl;
       },
-      λ _. (l, g),
+      o,
     )
-    callTo-does (leadsTo t) i l = record { gained = level (m .height); limited = λ h. h; called = (l, refl, refl, g, i) }
 
-    call-does : (f : Found) → Leads f → Does G I (effects CALL) m (call f m)
-    unfolding effects call lostAt Does Room
-    call-does f i =
-        must-case (Does G I (effects CALL) m) _ _ _ _ (as-it-was (effects CALL) 23 refl refl refl, never)
-        (λ b. callTo-does f i (ltb-true (callHeight m) callLimit b))
+    -- an untrapped step to m', by each of its parts
+    moves : (e : Effects) (dumped : List ℕ) (m' : Machine) → pos (m' .height) ≡ pos (m .height) +ℤ e .gain → (m .height ≤ stackLimit → m' .height ≤ stackLimit)
+        → CallsAre (e .on-calls) m m' → Except (w .stack) (m .stack) (m' .stack) → Except (w .calls) (m .calls) (m' .calls)
+        → Except (w .memory) (m .memory) (m' .memory) → (w .flags ≡ false → m' .flags ≡ m .flags) → m' .halted ≡ (w .halted || m .halted)
+        → dumped ≡ map (λ (j : ℕ). getD (m .stack) j 0) (w .dumps) → PointerIs (w .pointer) found m m' → Moves e w found m dumped m'
+    moves e dumped m' h l c s k b f d o q =
+        record {
+          limited = l;
+          called = c;
+          touched = record {
+            height-is = h;
+            call-height-is = call-gains (e .on-calls) m m' c;
+            stack-is = s;
+            calls-are = k;
+            memory-is = b;
+            flags-are = f;
+            halted-is = d;
+            dumps-are = o;
+            pointer-is = q;
+          };
+        }
 
-    dump-does : (stream : ℕ) → Does G I (effects DMP) m (dump stream m)
-    unfolding effects dump lostAt moved Does CallsAre
-    dump-does stream =
-        let P = Does G I (effects DMP) m in
-        must-case P _ _ _ _ (untouched (pos 0) 0 [] 20 refl refl refl) λ _.
-        must-case P _ _ _ _ (untouched (pos 0) 0 [] 32 refl refl refl) λ _.
-        record { gained = level (m .height); limited = λ l. l; called = (refl, refl, g) }
+  module _ (found : Found) where
+    -- one further with the stack s of the height h
+    stacks : (d : ℤ) (n : ℕ) (ts slots s : List ℕ) (h : ℕ) → pos h ≡ pos (m .height) +ℤ d → (m .height ≤ stackLimit → h ≤ stackLimit)
+        → Except slots (m .stack) s → Does I (listed d n ts keeps) (cells slots) found m (succeeds (onward (withStack s h m)))
+    unfolding Does CallsAre PointerIs withStack moved
+    stacks d n ts slots s h g l e =
+        moves (cells slots) found (listed d n ts keeps) [] _ g l (refl, refl) e (unchanged [] _) (unchanged [] _) (λ _. refl) refl refl refl
 
-    convert-does : (k : Conversion) → Does G I (effects (conversion k)) m (convert k m)
-    unfolding effects convert lostAt moved withStack
+    -- as high as it was, and with k cells less
+    level-stacks : (n : ℕ) (ts slots s : List ℕ) → Except slots (m .stack) s
+        → Does I (listed (pos 0) n ts keeps) (cells slots) found m (succeeds (onward (withStack s (m .height) m)))
+    level-stacks n ts slots s e = stacks _ n ts slots s _ (level (m .height)) (λ l. l) e
+
+    less-stacks : (k n : ℕ) (ts slots s : List ℕ) → k ≤ m .height → Except slots (m .stack) s
+        → Does I (listed (negℤ (pos k)) n ts keeps) (cells slots) found m (succeeds (onward (withStack s (m .height - k) m)))
+    less-stacks k n ts slots s l e = stacks _ n ts slots s _ (less-by (m .height) k l) (λ b. omega arith) e
+
+    slot-is : (d : ℕ) → d < m .height → slotAt d m ≡ (m .height - suc d) ∷ []
+    unfolding slotAt
+    slot-is d l = rw (lt-ltb d (m .height) l)
+
+    -- a cell in the place of the one at the depth d
+    at-depth : (d j v : ℕ) → d < m .height → j ≡ m .height - suc d → Except (slotAt d m) (m .stack) (set (m .stack) j v)
+    at-depth d j v l e = rw (slot-is d l, e) (one (m .stack) (m .height - suc d) v)
+
+    push-does : (v : ℕ) → Does I (effects PUSH) (cells (m .height ∷ [])) found m (push v m)
+    unfolding effects push lostAt
+    push-does v =
+        must-case (Does I (effects PUSH) _ found m) _ _ _ _ (untouched _ found _ 0 [] 21 refl refl refl)
+        (λ b. stacks _ 0 [] _ _ _ refl (λ l. omega (arith, ltb-true (m .height) stackLimit b)) (one (m .stack) _ v))
+
+    pop-does : Does I (effects POP) (only past) found m (pop m)
+    unfolding effects pop lostAt
+    pop-does =
+        must-case (Does I (effects POP) _ found m) _ _ _ _ (untouched _ found _ 0 [] 20 refl refl refl)
+        (λ b. less-stacks 1 0 [] [] _ (ltb-true 0 (m .height) b) (unchanged [] _))
+
+    adjust-does : (f : ℕ → ℕ) → Does I (effects INC) (cells (slotAt 0 m)) found m (adjust f m)
+    unfolding effects adjust lostAt
+    adjust-does f =
+        must-case (Does I (effects INC) _ found m) _ _ _ _ (untouched _ found _ 0 [] 20 refl refl refl)
+        (λ b. level-stacks 0 [] _ _ (at-depth 0 _ _ (ltb-true 0 (m .height) b) refl))
+
+    integer-does : (k : Integer) → Does I (effects (integer k)) (cells (slotAt 1 m)) found m (integerStep k m)
+    unfolding effects integerStep lostAt withStack
+    integer-does k =
+        let w = cells (slotAt 1 m) in
+        let P = Does I (effects (integer k)) w found m in
+        let ts : List ℕ = 24 ∷ 30 ∷ 31 ∷ [] in
+        must-case P _ _ _ _ (untouched w found _ 1 ts 20 refl refl refl) λ b.
+        let h = leb-true 2 (m .height) b in
+        let l : 1 ≤ m .height = omega arith in
+        must-case P _ _ _ _ (loses w found _ 1 ts 31 refl refl refl l) λ _.
+        must-case P _ _ _ _ (loses w found _ 1 ts 30 refl refl refl l) λ _.
+        must-case P _ _ _ _ (loses w found _ 1 ts 24 refl refl refl l) λ _.
+        less-stacks 1 1 ts _ _ l (at-depth 1 _ _ h (omega arith))
+
+    float-does : (k : Float) → Does I (effects (float k)) (cells (slotAt 1 m)) found m (floatStep k m)
+    unfolding effects floatStep lostAt withStack
+    float-does k =
+        must-case (Does I (effects (float k)) _ found m) _ _ _ _ (untouched _ found _ 1 (24 ∷ 30 ∷ 31 ∷ []) 20 refl refl refl)
+        (λ b. let h = leb-true 2 (m .height) b in less-stacks 1 1 _ _ _ (omega arith) (at-depth 1 _ _ h (omega arith)))
+
+    compare-does : (i : Inst) → Does I (effects CMP) (touches i m CMP) found m (compare m)
+    unfolding effects touches compare lostAt moved withStack withFlags Does CallsAre PointerIs
+    compare-does i =
+        must-case (Does I (effects CMP) (touches i m CMP) found m) _ _ _ _ (untouched (touches i m CMP) found (negℤ (pos 1)) 0 [] 20 refl refl refl) λ b.
+        moves (touches i m CMP) found (effects CMP) [] _ (less-by (m .height) 1 (omega (arith, leb-true 2 (m .height) b))) (λ l. omega arith) (refl, refl)
+        (unchanged [] _) (unchanged [] _) (unchanged [] _) (λ e. never (sym e)) refl refl refl
+
+    swap-does : (d : ℕ) → Does I (effects SWAP) (cells (slotAt 0 m ++ slotAt d m)) found m (swap d m)
+    unfolding effects swap lostAt
+    swap-does d =
+        must-case (Does I (effects SWAP) _ found m) _ _ _ _ (untouched _ found _ 0 [] 20 refl refl refl) λ b.
+        let l = ltb-true d (m .height) b in
+        level-stacks 0 [] _ _ (rw (slot-is 0 (omega arith)) (stored (m .stack) _ _ (slotAt d m) _ (at-depth d _ _ l (omega arith))))
+
+    dup-does : (d : ℕ) → Does I (effects DUP) (cells (m .height ∷ [])) found m (dup d m)
+    unfolding effects dup lostAt
+    dup-does d = must-case (Does I (effects DUP) _ found m) _ _ _ _ (untouched _ found _ 0 [] 20 refl refl refl) (λ _. push-does _)
+
+    bot-does : Does I (effects BOT) (cells (m .height ∷ [])) found m (bot m)
+    unfolding effects bot lostAt
+    bot-does = must-case (Does I (effects BOT) _ found m) _ _ _ _ (untouched _ found _ 0 [] 20 refl refl refl) (λ _. push-does _)
+
+    -- the pointer alone
+    points : (q : Pointer) (j : ℕ) → PointerIs q found m (moved j m) → Does I (listed (pos 0) 0 [] keeps) (only q) found m (succeeds (moved j m))
+    unfolding Does CallsAre moved
+    points q j a =
+        moves (only q) found (listed (pos 0) 0 [] keeps) [] _ (level (m .height)) (λ l. l) (refl, refl) (unchanged [] _) (unchanged [] _) (unchanged [] _) (λ _. refl) refl refl a
+
+    nop-does : Does I (effects NOP) (only past) found m (succeeds (onward m))
+    unfolding effects PointerIs moved
+    nop-does = points past _ refl
+
+    dump-does : (i : Inst) (stream : ℕ) → Does I (effects DMP) (touches i m DMP) found m (dump stream m)
+    unfolding effects touches dump lostAt Does CallsAre PointerIs moved
+    dump-does i stream =
+        let w = touches i m DMP in
+        let P = Does I (effects DMP) w found m in
+        must-case P _ _ _ _ (untouched w found (pos 0) 0 [] 20 refl refl refl) λ b.
+        must-case P _ _ _ _ (untouched w found (pos 0) 0 [] 32 refl refl refl) λ _.
+        moves w found (effects DMP) (top m ∷ []) _ (level (m .height)) (λ l. l) (refl, refl)
+        (unchanged [] _) (unchanged [] _) (unchanged [] _) (λ _. refl) refl (rw (slot-is 0 (ltb-true 0 (m .height) b))) refl
+
+    convert-does : (k : Conversion) → Does I (effects (conversion k)) (cells (slotAt 0 m)) found m (convert k m)
+    unfolding effects convert lostAt
     convert-does k =
-        let P = Does G I (effects (conversion k)) m in
+        let w = cells (slotAt 0 m) in
+        let P = Does I (effects (conversion k)) w found m in
         let ts : List ℕ = 28 ∷ 29 ∷ 31 ∷ [] in
-        must-case P _ _ _ _ (untouched _ 1 ts 20 refl refl refl) λ b.
+        must-case P _ _ _ _ (untouched w found _ 1 ts 20 refl refl refl) λ b.
         let l : 1 ≤ m .height = ltb-true 0 (m .height) b in
-        must-case P _ _ _ _ (loses _ 1 ts 31 refl refl refl l) λ _.
-        must-case P _ _ _ _ (loses _ 1 ts 28 refl refl refl l) λ _.
-        must-case P _ _ _ _ (loses _ 1 ts 29 refl refl refl l) λ _.
-        on _ 1 ts _ (level (m .height)) (λ h. h) refl refl g
+        must-case P _ _ _ _ (loses w found _ 1 ts 31 refl refl refl l) λ _.
+        must-case P _ _ _ _ (loses w found _ 1 ts 28 refl refl refl l) λ _.
+        must-case P _ _ _ _ (loses w found _ 1 ts 29 refl refl refl l) λ _.
+        level-stacks 1 ts _ _ (at-depth 0 _ _ l refl)
 
-    read-does : Does G I (effects READ) m (read m)
-    unfolding effects read lostAt moved withStack withMemory
+    read-does : Does I (effects READ) (cells (slotAt 0 m)) found m (read m)
+    unfolding effects read lostAt
     read-does =
-        let P = Does G I (effects READ) m in
-        must-case P _ _ _ _ (untouched _ 1 (25 ∷ []) 20 refl refl refl) λ b.
-        must-case P _ _ _ _ (loses _ 1 (25 ∷ []) 25 refl refl refl (ltb-true 0 (m .height) b)) λ _.
-        on _ 1 _ _ (level (m .height)) (λ h. h) refl refl g
+        let w = cells (slotAt 0 m) in
+        let P = Does I (effects READ) w found m in
+        must-case P _ _ _ _ (untouched w found _ 1 (25 ∷ []) 20 refl refl refl) λ b.
+        let l = ltb-true 0 (m .height) b in
+        must-case P _ _ _ _ (loses w found _ 1 (25 ∷ []) 25 refl refl refl l) λ _.
+        level-stacks 1 _ _ _ (at-depth 0 _ _ l refl)
 
-    write-does : Does G I (effects WRITE) m (write m)
-    unfolding effects write lostAt moved withStack withMemory
-    write-does =
-        let P = Does G I (effects WRITE) m in
-        must-case P _ _ _ _ (untouched _ 2 (25 ∷ []) 20 refl refl refl) λ b.
+    write-does : (i : Inst) → Does I (effects WRITE) (touches i m WRITE) found m (write m)
+    unfolding effects touches write lostAt moved withStack withMemory Does CallsAre PointerIs
+    write-does i =
+        let w = touches i m WRITE in
+        let P = Does I (effects WRITE) w found m in
+        must-case P _ _ _ _ (untouched w found (negℤ (pos 2)) 2 (25 ∷ []) 20 refl refl refl) λ b.
         let l : 2 ≤ m .height = leb-true 2 (m .height) b in
-        must-case P _ _ _ _ (loses _ 2 (25 ∷ []) 25 refl refl refl l) λ _.
-        less 2 2 _ _ l refl refl refl g
+        must-case P _ _ _ _ (loses w found (negℤ (pos 2)) 2 (25 ∷ []) 25 refl refl refl l) λ _.
+        moves w found (effects WRITE) [] _ (less-by (m .height) 2 l) (λ h. omega arith) (refl, refl)
+        (unchanged [] _) (unchanged [] _) (one (m .memory) _ _) (λ _. refl) refl refl refl
 
-  jump-does : (f : Found) → Leads f → Does G I (effects JMP) m (jump f m)
-  unfolding effects jump lostAt moved Leads Does
-  jump-does illChain i = i
-  jump-does noLabel i = untouched (pos 0) 0 [] 26 refl refl refl
-  jump-does (leadsTo t) i = on _ 0 [] _ (level (m .height)) (λ l. l) refl refl i
+    ret-does : Does I (effects RET) (only toPopped) found m (ret m)
+    unfolding effects ret lostAt moved withCalls Does Room CallsAre PointerIs
+    ret-does =
+        must-case (Does I (effects RET) (only toPopped) found m) _ _ _ _ (as-it-was (effects RET) _ refl refl refl, refl) λ b.
+        let l = ltb-true 0 (callHeight m) b in
+        moves (only toPopped) found (effects RET) [] _ (level (m .height)) (λ h. h) (l, refl, refl)
+        (unchanged [] _) (unchanged [] _) (unchanged [] _) (λ _. refl) refl refl (l, refl)
 
-  ret-does : Does G I (effects RET) m (ret m)
-  unfolding effects ret lostAt moved withCalls Does Room CallsAre
-  ret-does =
-      must-case (Does G I (effects RET) m) _ _ _ _ (as-it-was (effects RET) _ refl refl refl, refl)
-      (λ b. record { gained = level (m .height); limited = λ h. h; called = (ltb-true 0 (callHeight m) b, refl, refl, refl) })
+    halt-does : (i : Inst) → Does I (effects HALT) (touches i m HALT) found m (succeeds (stopped m))
+    unfolding effects touches stopped Does CallsAre PointerIs
+    halt-does i =
+        moves (touches i m HALT) found (effects HALT) [] _ (level (m .height)) (λ h. h) (refl, refl)
+        (unchanged [] _) (unchanged [] _) (unchanged [] _) (λ _. refl) refl refl refl
 
-  halt-does : G (m .ip) → Does G I (effects HALT) m (succeeds (stopped m))
-  unfolding effects stopped
-  halt-does g = on _ 0 [] _ (level (m .height)) (λ l. l) refl refl g
+  -- jumps and CALL, by what their lookup finds
 
-  pub exec-does : (found : Found) (i : Inst) (op : Op) → G (m .ip) → (halts op ≡ false → G (m .ip + 1)) → Leads found → Does G I (effects op) m (exec found i m op)
-  unfolding exec effects halts
-  exec-does found i NOP h g f = nop-does (g refl)
-  exec-does found i PUSH h g f = push-does (g refl) (i .val)
-  exec-does found i POP h g f = pop-does (g refl)
-  exec-does found i INC h g f = adjust-does (g refl) inc
-  exec-does found i DEC h g f = adjust-does (g refl) dec
-  exec-does found i CMP h g f = compare-does (g refl)
-  exec-does found i SWAP h g f = swap-does (g refl) (i .val)
-  exec-does found i DUP h g f = dup-does (g refl) (i .val)
-  exec-does found i BOT h g f = bot-does (g refl)
-  exec-does found i JCC h g f = jumpIf-does (g refl) (isSet (m .flags) (i .typ)) found f
-  exec-does found i JMP h g f = jump-does found f
-  exec-does found i CALL h g f = call-does (g refl) found f
-  exec-does found i RET h g f = ret-does
-  exec-does found i DMP h g f = dump-does (g refl) (i .val)
-  exec-does found i READ h g f = read-does (g refl)
-  exec-does found i WRITE h g f = write-does (g refl)
-  exec-does found i HALT h g f = halt-does h
-  exec-does found i (integer k) h g f = integer-does (g refl) k
-  exec-does found i (float k) h g f = float-does (g refl) k
-  exec-does found i (conversion k) h g f = convert-does (g refl) k
+  jumpIf-does : (b : Bool) (f : Found) → (f ≡ illChain → I) → Does I (effects JCC) (only (toLabel b)) f m (jumpIf b f m)
+  unfolding effects jumpIf lostAt Does PointerIs moved
+  jumpIf-does b illChain i = i refl
+  jumpIf-does b noLabel i = untouched (only (toLabel b)) noLabel (pos 0) 0 [] 26 refl refl refl
+  jumpIf-does true (leadsTo t) i = points (leadsTo t) (toLabel true) t (t, refl, refl)
+  jumpIf-does false (leadsTo t) i = points (leadsTo t) (toLabel false) _ (t, refl, refl)
 
-  pub step-does : (p : Program) → (wellState p m ≡ false → I) → G (m .ip) → (halts (opOf (instAt p m .typ)) ≡ false → G (m .ip + 1))
-      → Leads (lookup p (instAt p m)) → Does G I (effectsAt p m) m (step p m)
+  jump-does : (f : Found) → (f ≡ illChain → I) → Does I (effects JMP) (only (toLabel true)) f m (jump f m)
+  unfolding effects jump lostAt Does PointerIs moved
+  jump-does illChain i = i refl
+  jump-does noLabel i = untouched (only (toLabel true)) noLabel (pos 0) 0 [] 26 refl refl refl
+  jump-does (leadsTo t) i = points (leadsTo t) (toLabel true) t (t, refl, refl)
+
+  callTo-does : (i : Inst) (f : Found) → (f ≡ illChain → I) → callHeight m < callLimit → Does I (effects CALL) (touches i m CALL) f m (callTo f m)
+  unfolding effects touches callTo lostAt Does CallsLeft Room withCalls moved CallsAre PointerIs
+  callTo-does i illChain h l = h refl
+  callTo-does i noLabel h l = (
+    record {
+      number-from = lit≤ tt;
+      number-to = lit≤ tt;
+      enough = omega arith;
+      height-is = omega arith;
+      stack-is = refl;
+      calls-are = (refl, refl);
+      memory-is = refl;
+      flags-are = refl;
+      pointer-is = refl;
+      halted-is = refl;
+    },
+    λ _. l,
+  )
+  callTo-does i (leadsTo t) h l =
+      moves (touches i m CALL) (leadsTo t) (effects CALL) [] _ (level (m .height)) (λ b. b) (l, refl, refl)
+      (unchanged [] _) (one (m .calls) _ _) (unchanged [] _) (λ _. refl) refl refl (t, refl, refl)
+
+  call-does : (i : Inst) (f : Found) → (f ≡ illChain → I) → Does I (effects CALL) (touches i m CALL) f m (call f m)
+  unfolding effects call lostAt Does Room
+  call-does i f h =
+      must-case (Does I (effects CALL) (touches i m CALL) f m) _ _ _ _ (as-it-was (effects CALL) 23 refl refl refl, never)
+      (λ b. callTo-does i f h (ltb-true (callHeight m) callLimit b))
+
+  exec-does : (f : Found) (i : Inst) (op : Op) → (f ≡ illChain → I) → Does I (effects op) (touches i m op) f m (exec f i m op)
+  unfolding exec touches effects
+  exec-does f i NOP h = nop-does f
+  exec-does f i PUSH h = push-does f (i .val)
+  exec-does f i POP h = pop-does f
+  exec-does f i INC h = adjust-does f inc
+  exec-does f i DEC h = adjust-does f dec
+  exec-does f i CMP h = compare-does f i
+  exec-does f i SWAP h = swap-does f (i .val)
+  exec-does f i DUP h = dup-does f (i .val)
+  exec-does f i BOT h = bot-does f
+  exec-does f i JCC h = jumpIf-does (isSet (m .flags) (i .typ)) f h
+  exec-does f i JMP h = jump-does f h
+  exec-does f i CALL h = call-does i f h
+  exec-does f i RET h = ret-does f
+  exec-does f i DMP h = dump-does f i (i .val)
+  exec-does f i READ h = read-does f
+  exec-does f i WRITE h = write-does f i
+  exec-does f i HALT h = halt-does f i
+  exec-does f i (integer k) h = integer-does f k
+  exec-does f i (float k) h = float-does f k
+  exec-does f i (conversion k) h = convert-does f k
+
+  pub step-does : (p : Program) → (wellState p m ≡ false → I) → (foundAt p m ≡ illChain → I)
+      → Does I (effectsAt p m) (touchesAt p m) (foundAt p m) m (step p m)
   unfolding step Does
-  step-does p w h g f =
-      by-test (Does G I (effectsAt p m) m) (wellState p m) (exec (lookup p (instAt p m)) (instAt p m) m (opOf (instAt p m .typ))) ill
-      (λ _. exec-does (lookup p (instAt p m)) (instAt p m) (opOf (instAt p m .typ)) h g f)
+  step-does p w h =
+      by-test (Does I (effectsAt p m) (touchesAt p m) (foundAt p m) m) (wellState p m) (exec (foundAt p m) (instAt p m) m (opOf (instAt p m .typ))) ill
+      (λ _. exec-does (foundAt p m) (instAt p m) (opOf (instAt p m .typ)) h)
       w
 
 -- for every program and machine
 
-abbrev Anywhere : ℕ → Type 0
-Anywhere i = Unit {0}
-
-leads-anywhere : (m : Machine) (f : Found) → Leads Anywhere (Unit {0}) m f
-unfolding Leads
-leads-anywhere m illChain = tt
-leads-anywhere m noLabel = tt
-leads-anywhere m (leadsTo i) = tt
-
-anywhere : (p : Program) (m : Machine) → Does Anywhere (Unit {0}) (effectsAt p m) m (step p m)
-anywhere p m = step-does Anywhere (Unit {0}) m p (λ _. tt) tt (λ _. tt) (leads-anywhere m _)
+pub anywhere : (p : Program) (m : Machine) → Does (Unit {0}) (effectsAt p m) (touchesAt p m) (foundAt p m) m (step p m)
+anywhere p m = step-does (Unit {0}) m p (λ _. tt) (λ _. tt)
 
 pub traps-leave : TrapsLeave
 unfolding Does
 traps-leave p m t m' e = (rw e at (anywhere p m)) .0
 
--- the height of an untrapped step
-pub success-gains : (p : Program) (m m' : Machine) → step p m ≡ succeeds m' → pos (m' .height) ≡ pos (m .height) +ℤ effectsAt p m .gain
+pub steps-touch : StepsTouch
 unfolding Does
-success-gains p m m' e = (rw e at (anywhere p m)) .gained
-
-pub dump-gains : (p : Program) (m : Machine) (c : ℕ) (m' : Machine) → step p m ≡ outputs c m' → pos (m' .height) ≡ pos (m .height) +ℤ effectsAt p m .gain
-unfolding Does
-dump-gains p m c m' e = (rw e at (anywhere p m)) .gained
+steps-touch =
+    record {
+      success = λ p m m' e. (rw e at (anywhere p m)) .touched;
+      dump = λ p m c m' e. (rw e at (anywhere p m)) .touched;
+    }

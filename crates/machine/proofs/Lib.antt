@@ -1,11 +1,11 @@
 pub mod Cases
 mod Lists
 pub mod Does
-mod Touch
 mod Sound
 pub mod Valid
 pub mod Tables
 pub mod Marks
 pub mod Fuel
 pub mod Histories
+mod Only
 pub mod Runs

@@ -1,12 +1,16 @@
--- Lists without their last, and lists of numbers below a bound. Assumes nothing.
+-- Lists without their last, lists of numbers below a bound, and lists that differ in some slots at most. Assumes nothing.
 use Prim.Native.Nat.{ℕ, zero, suc, _<_}
-use mathlib.Core.Path.{_≡_, refl, ap}
+use mathlib.Core.Path.{_≡_, refl, ap, _∙_}
 use mathlib.Core.List.{List, [], _∷_, _++_, map}
 use native.Mathlib.Nat.{le-of-suc-le-suc, not-suc-le-zero}
-use lib.ListN.{length, getD, take}
-use lib.Seq.{take-suc}
+use lib.Dec.{eqb}
+use lib.ListN.{length, getD, set, take, length-set}
+use lib.Seq.{take-suc, getD-set-other}
+use borrow.Author.Tests.{eqb-false}
 use Rattle.machine.specs.Effects.{dropLast}
+use Rattle.machine.specs.Steps.{isOneOf, Except}
 use Rattle.machine.specs.Statements.{AllBelow}
+use Rattle.inst.proofs.Laws.{or-left, or-right}
 
 pub map-snoc : (l : List ℕ) (x : ℕ) → map suc (l ++ (x ∷ [])) ≡ map suc l ++ (suc x ∷ [])
 map-snoc [] x = refl
@@ -23,6 +27,11 @@ unfolding dropLast
 map-dropLast [] = refl
 map-dropLast (x ∷ []) = refl
 map-dropLast (x ∷ y ∷ l) = ap (λ (k : List ℕ). suc x ∷ k) (map-dropLast (y ∷ l))
+
+pub length-dropLast : (x : ℕ) (l : List ℕ) → length (dropLast (x ∷ l)) ≡ length l
+unfolding dropLast
+length-dropLast x [] = refl
+length-dropLast x (y ∷ l) = ap suc (length-dropLast y l)
 
 pub dropLast-take : (l : List ℕ) (j : ℕ) → j < length l → dropLast (take (suc j) l) ≡ take j l
 dropLast-take l j h = rw (take-suc l j 0 h) (dropLast-snoc (take j l) (getD l j 0))
@@ -43,3 +52,20 @@ unfolding AllBelow
 below-getD n [] i b h = absurd (not-suc-le-zero h)
 below-getD n (x ∷ l) zero b h = b .0
 below-getD n (x ∷ l) (suc i) b h = below-getD n l i (b .1) (le-of-suc-le-suc h)
+
+-- lists that differ in these slots at most
+
+pub unchanged : (slots xs : List ℕ) → Except slots xs xs
+unchanged slots xs = record { size-is = refl; others-are = λ i h. refl }
+
+module _ (xs : List ℕ) (k v : ℕ) where
+  pub stored : (slots : List ℕ) (ys : List ℕ) → Except slots xs ys → Except (k ∷ slots) xs (set ys k v)
+  unfolding isOneOf
+  stored slots ys e =
+      record {
+        size-is = length-set ys k v ∙ e .size-is;
+        others-are = λ i h. getD-set-other ys k i v 0 (eqb-false i k (or-left (eqb i k) _ h)) ∙ e .others-are i (or-right (eqb i k) _ h);
+      }
+
+  pub one : Except (k ∷ []) xs (set xs k v)
+  one = stored [] xs (unchanged [] xs)

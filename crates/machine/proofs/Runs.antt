@@ -3,51 +3,43 @@ use Prim.Native.Nat.{ℕ, zero, suc, _+_, _-_, _≤_, _<_}
 use mathlib.Core.Path.{_≡_, refl, ap, _∙_, sym, subst}
 use mathlib.Core.Bool.{Bool, true, false, cond, _||_}
 use mathlib.Core.List.{List, [], _∷_, _++_, append-assoc, append-nil}
-use native.Mathlib.Nat.{add-zero, suc-add, add-assoc, zero-add}
+use native.Mathlib.Nat.{add-zero, add-assoc, zero-add}
 use native.Mathlib.Numerals.{add-one}
 use native.Mathlib.Omega.{arith}
-use lib.Dec.{eqb, ltb}
-use lib.ListN.{length, getD, take, drop, length-replicate}
-use lib.Seq.{sets, sets-eq}
+use lib.Dec.{ltb}
+use lib.ListN.{length, drop, length-replicate}
+use lib.Seq.{sets, sets-eq, length-sets}
 use borrow.Author.Tests.{ltb-false}
 use Rattle.inst.specs.declared.Inst.{Inst}
+use Rattle.inst.specs.Records.{Bytes}
 use Rattle.machine.specs.declared.Machine.{Machine}
 use Rattle.machine.specs.declared.Label.{Label}
-use Rattle.machine.specs.declared.Ending.{Ending}
-use Rattle.machine.specs.declared.Ending.the-variants.{Limit, Number}
+use Rattle.machine.specs.declared.Ending.the-variants.{Number}
 use Rattle.machine.specs.Limits.{stackLimit, callLimit, instLimit, labelRecords}
-use Rattle.machine.specs.Load.{isHalt, halt, Loaded, accepts, rejects, loads, load, instsAfter, labelsAfter, fresh, countOf}
-use Rattle.machine.specs.Lookup.{Program, Found, illChain, noLabel, leadsTo}
+use Rattle.machine.specs.Load.{isHalt, Loaded, accepts, rejects, loads, load, instsAfter, labelsAfter, fresh, countOf}
+use Rattle.machine.specs.Lookup.{Program, leadsTo}
 use Rattle.machine.specs.Change.{callHeight}
-use Rattle.machine.specs.Step.{Stepped, succeeds, outputs, trap, ill, opOf, instAt, step}
+use Rattle.machine.specs.Step.{opOf, instAt, step}
 use Rattle.machine.specs.Run.{Course, course, Result, reported, run}
-use Rattle.machine.specs.Effects.{Effects, effects}
+use Rattle.machine.specs.Effects.{effects}
+use Rattle.machine.specs.Touches.{touches}
+use Rattle.machine.specs.Steps.{touchesAt, foundAt}
 use Rattle.machine.specs.History.{State, initial, History, none, end, stepped, programOf, effectsAt, further, history}
-use Rattle.machine.specs.Statements.{Request, runs, lastMachine, totalSteps, allDumped, Why, is-ill, is-full, is-trap, Because, AllBelow, Counted, Below, AllKept, RunsFrom, lent, RunsAreOneHistory}
-use Rattle.inst.proofs.Laws.{by-test, never, or-left, or-right}
-use Rattle.machine.proofs.Does.{Does, Leads, halts, step-does, traps-leave}
-use Rattle.machine.proofs.Sound.{Sound, counted, below, In, stepped-sound}
+use Rattle.machine.specs.Statements.{Request, runs, lastMachine, totalSteps, allDumped, is-ill, is-full, is-trap, Because, AllBelow, Counted, Below, AllKept, RunsFrom, lent, RunsAreOneHistory, NamesLeadToLast}
+use Rattle.inst.proofs.Laws.{never, or-left, or-right}
+use Rattle.machine.proofs.Does.{Does, step-does, traps-leave}
+use Rattle.machine.proofs.Sound.{Sound, counted, below, Ahead, at-halt, ahead, stepped-sound}
 use Rattle.machine.proofs.Valid.{Valid, valid}
-use Rattle.machine.proofs.Tables.{padded, Inside, name-inside, lookup-is, inst-is, well-state, step-is}
-use Rattle.machine.proofs.Histories.{Joined, joins, front}
+use Rattle.machine.proofs.Tables.{padded, Inside, name-inside, lookup-is, name-found, inst-is, well-state, step-is}
+use Rattle.machine.proofs.Histories.{end-same, none-end, Joined, joins, front}
+use Rattle.machine.proofs.Only.{begins}
 
-end-same : (s u : State) → end s ≡ end u → s ≡ u
-end-same s u e = cc
-
-none-end : (s : State) → none ≡ end s → ⊥
-none-end s e = let z : _≡_ {A = ℕ} 0 1 = cc in omega arith
-
--- the instruction that halts is HALT
-halting : (typ : ℕ) (b : Bool) → eqb typ 69 ≡ b → halts (opOf typ) ≡ false → b ≡ false
-unfolding opOf halts
-halting typ true e h = never (sym (rw e at h))
-halting typ false e h = refl
-
-inside-leads : (n : ℕ) (m : Machine) (f : Found) → Inside n f → Leads (In n) ⊥ m f
-unfolding Inside Leads
-inside-leads n m illChain i = i
-inside-leads n m noLabel i = tt
-inside-leads n m (leadsTo t) i = i
+-- only HALT may be the last instruction
+ahead-of : (count : ℕ) (m : Machine) (i : Inst) (b : Bool) → isHalt i ≡ b → (b ≡ false → m .ip + 1 < count)
+    → Ahead count m (effects (opOf (i .typ)) .on-calls) (touches i m (opOf (i .typ)) .pointer)
+unfolding opOf effects touches
+ahead-of count m i true e f = rw e at-halt
+ahead-of count m i false e f = ahead (f refl)
 
 module _ (image : List ℕ) (l : Loaded) (v : Valid image l) where
   abbrev count : ℕ
@@ -73,7 +65,7 @@ module _ (image : List ℕ) (l : Loaded) (v : Valid image l) where
         called = record {
           addresses-are = refl;
           addresses-below = tt;
-          pointer-below = v .start-below;
+          pointer-below = v .start-is .0 .0;
           calls-size = length-replicate {A = ℕ} callLimit 0;
           call-height-fits = omega arith;
         };
@@ -96,20 +88,25 @@ module _ (image : List ℕ) (l : Loaded) (v : Valid image l) where
       abbrev lentTables : Program
       lentTables = padded image l is ls
 
-      goes-on : halts (opOf (instAt lentTables m .typ)) ≡ false → m .ip + 1 < count
-      goes-on e =
-          let i = getD (l .insts) (m .ip) halt in
-          let b : halts (opOf (i .typ)) ≡ false = rw (inst-is image l v is ls m pointer-below) at e in
-          rw add-one (v .halts-last (m .ip) pointer-below (halting (i .typ) (isHalt i) refl b))
+      inside : Inside count (foundAt lentTables m)
+      inside = rw (lookup-is image l v is ls) (name-inside image l v (instAt lentTables m))
 
-      padded-does : Does (In count) ⊥ (effectsAt lentTables m) m (step lentTables m)
+      padded-does : Does ⊥ (effectsAt lentTables m) (touchesAt lentTables m) (foundAt lentTables m) m (step lentTables m)
+      unfolding Inside
       padded-does =
-          step-does (In count) ⊥ m lentTables (λ w. never (sym w ∙ well-state image l v is ls m height-fits call-height-fits pointer-below)) pointer-below goes-on
-          (rw (lookup-is image l v is ls) (inside-leads count m _ (name-inside image l v (instAt lentTables m))))
+          step-does ⊥ m lentTables (λ w. never (sym w ∙ well-state image l v is ls m height-fits call-height-fits pointer-below))
+          (λ e. subst (Inside count) e inside)
 
     -- the step of the history
-    does : Does (In count) ⊥ (effectsAt P m) m (step P m)
-    does = subst (λ (p : Program). Does (In count) ⊥ (effectsAt p m) m (step p m)) P-is (padded-does [] [])
+    does : Does ⊥ (effectsAt P m) (touchesAt P m) (foundAt P m) m (step P m)
+    does = subst (λ (p : Program). Does ⊥ (effectsAt p m) (touchesAt p m) (foundAt p m) m (step p m)) P-is (padded-does [] [])
+
+    leads-inside : (t : ℕ) → foundAt P m ≡ leadsTo t → t < count
+    unfolding Inside
+    leads-inside t e = subst (Inside count) e (subst (λ (p : Program). Inside count (foundAt p m)) P-is (inside [] []))
+
+    goes-on : Ahead count m (effectsAt P m .on-calls) (touchesAt P m .pointer)
+    goes-on = ahead-of count m (instAt P m) (isHalt (instAt P m)) refl (λ e. rw add-one (v .halts-last (m .ip) pointer-below e))
 
     same-inst : (is : List Inst) (ls : List Label) → instAt (padded image l is ls) m ≡ instAt P m
     same-inst is ls = inst-is image l v is ls m pointer-below
@@ -134,7 +131,7 @@ module _ (image : List ℕ) (l : Loaded) (v : Valid image l) where
         by : (b : Bool) → cond b none (stepped s (effectsAt P m) (step P m)) ≡ end u → Sound count u
         by true f = absurd (none-end u f)
         by false f =
-            let d = stepped-sound count s h (effectsAt P m) (step P m) does in
+            let d = stepped-sound count s h (effectsAt P m) (touchesAt P m) (foundAt P m) goes-on leads-inside (step P m) does in
             subst (Sound count) (end-same (d .0) u (sym (d .1) ∙ f)) (d .2)
 
   from-sound : (k : History) (u : State) → ((s : State) → k ≡ end s → Sound count s) → further P k ≡ end u → Sound count u
@@ -147,22 +144,11 @@ module _ (image : List ℕ) (l : Loaded) (v : Valid image l) where
   history-sound zero s e = subst (Sound count) (end-same first s e) start-sound
   history-sound (suc n) s e = from-sound (history P first n) s (history-sound n) e
 
-  -- a history has each of its beginnings
-  from : (k : History) (u : State) → further P k ≡ end u → (s : State) × (k ≡ end s)
-  unfolding further
-  from none u e = absurd (none-end u e)
-  from (end s) u e = (s, refl)
-
-  begins : (k d : ℕ) (u : State) → history P first (d + k) ≡ end u → (s : State) × (history P first k ≡ end s)
-  unfolding history
-  begins k zero u e = (u, rw zero-add at e)
-  begins k (suc d) u e = let b = from (history P first (d + k)) u (rw suc-add at e) in begins k d (b .0) (b .1)
-
   everywhere : (n : ℕ) (u : State) → history P first n ≡ end u → (k : ℕ) → k ≤ n
       → (s : State) × (history P first k ≡ end s) × Counted s × Below count (s .machine)
   everywhere n u e k h =
       let z : n ≡ (n - k) + k = omega arith in
-      let b = begins k (n - k) u (rw z at e) in
+      let b = begins P first k (n - k) u (rw z at e) in
       let s = history-sound k (b .0) (b .1) in
       (b .0, b .1, counted count (b .0) s, below count (b .0) s)
 
@@ -212,25 +198,32 @@ module _ (image : List ℕ) (l : Loaded) (v : Valid image l) where
               never-ill = λ e. not-ill _ _ _ _ (j .last) (j .history-is) (rw (← (j .machine-is)) at (rw e at (j .because)));
               within = j .within;
               exact = λ e. let b = (rw e at (j .because)) .1 in omega arith;
+              size-is = length-sets (q .buffer) 0 (r .cells);
               fits = j .fits;
             },
             t .all-kept,
           );
         }
 
-    chained : (qs : List Request) (rs : List Result) (n : ℕ) (s : State) → history Q first n ≡ end s → RunsFrom Q (s .machine) qs rs → Chained n s qs rs
+    chained : (qs : List Request) (rs : List Result) (n : ℕ) (s : State) → history Q first n ≡ end s → callHeight (s .machine) ≡ length (s .open-calls)
+        → RunsFrom Q (s .machine) qs rs → Chained n s qs rs
     unfolding RunsFrom run reported totalSteps lastMachine allDumped AllKept
-    chained [] [] n s e w = record { last = s; history-is = rw add-zero e; machine-is = refl; dumps-are = sym (append-nil (s .dumps)); all-kept = tt }
-    chained [] (r ∷ rs) n s e w = absurd w
-    chained (q ∷ qs) [] n s e w = absurd w
-    chained (q ∷ qs) (r ∷ rs) n s e w =
+    chained [] [] n s e k w = record { last = s; history-is = rw add-zero e; machine-is = refl; dumps-are = sym (append-nil (s .dumps)); all-kept = tt }
+    chained [] (r ∷ rs) n s e k w = absurd w
+    chained (q ∷ qs) [] n s e k w = absurd w
+    chained (q ∷ qs) (r ∷ rs) n s e k w =
         let c = course Q (q .limit) (length (q .buffer)) (s .machine) in
-        let j = joins Q first (q .limit) (length (q .buffer)) n s e in
+        let j = joins Q first (q .limit) (length (q .buffer)) n s e k in
         let m : r .machine ≡ j .last .machine = ap (λ (x : Result). x .machine) (w .0) ∙ sym (j .machine-is) in
         subst (λ (x : Result). Chained n s (q ∷ qs) (x ∷ rs)) (sym (w .0))
-        (chained-cons n s q qs c rs j (chained qs rs (n + c .steps) (j .last) (j .history-is) (subst (λ (x : Machine). RunsFrom Q x qs rs) m (w .1))))
+        (chained-cons n s q qs c rs j (chained qs rs (n + c .steps) (j .last) (j .history-is) (j .counts) (subst (λ (x : Machine). RunsFrom Q x qs rs) m (w .1))))
 
-module _ (image : List ℕ) (insts : List Inst) (labels : List Label) (l : Loaded) (e : load image insts labels ≡ accepts l) where
+-- filled from the front, with the rest behind
+filled : {A : Type 0} (rs old : List A) → length rs ≤ length old → sets old 0 rs ≡ rs ++ drop (length rs) old
+filled rs old h = sets-eq rs old 0 (rw zero-add h) ∙ rw zero-add
+
+-- an accepted image, and what its runs are lent
+module _ (image : List ℕ) (insts : List Inst) (labels : List Label) (l : Loaded) (bytes : Bytes image) (e : load image insts labels ≡ accepts l) where
   by-room : (b : Bool) → cond b (rejects 10) (loads image) ≡ accepts l → (b ≡ false) × (loads image ≡ accepts l)
   by-room true e = absurd (let z : _≡_ {A = ℕ} 0 1 = cc in omega arith)
   by-room false e = (refl, e)
@@ -239,9 +232,23 @@ module _ (image : List ℕ) (insts : List Inst) (labels : List Label) (l : Loade
   unfolding load
   room = by-room (ltb (length insts) instLimit || ltb (length labels) labelRecords) e
 
--- filled from the front, with the rest behind
-filled : {A : Type 0} (rs old : List A) → length rs ≤ length old → sets old 0 rs ≡ rs ++ drop (length rs) old
-filled rs old h = sets-eq rs old 0 (rw zero-add h) ∙ rw zero-add
+  accepted : Valid image l
+  accepted = valid image l bytes (room .1)
+
+  abbrev is' : List Inst
+  is' = drop (countOf l) insts
+
+  abbrev ls' : List Label
+  ls' = drop (length (l .labels)) labels
+
+  lent-is : lent image insts labels l ≡ padded image l is' ls'
+  unfolding lent instsAfter labelsAfter
+  lent-is =
+      let c = accepted .chain in
+      let is = filled (l .insts) insts (omega (arith, accepted .count-fits, ltb-false (length insts) instLimit (or-left _ _ (room .0)))) in
+      let size : length (l .labels) ≤ labelRecords = rw (c .labels-are) (c .fit) in
+      let ls = filled (l .labels) labels (omega (arith, ltb-false (length labels) labelRecords (or-right (ltb (length insts) instLimit) _ (room .0)))) in
+      rw (is, ls)
 
 -- the runs of a list are an instance
 pub runs-from : (p : Program) (m : Machine) (qs : List Request) → RunsFrom p m qs (runs p m qs)
@@ -250,18 +257,14 @@ runs-from p m [] = tt
 runs-from p m (q ∷ qs) = (refl, runs-from p _ qs)
 
 pub runs-are-one-history : RunsAreOneHistory
-unfolding lent instsAfter labelsAfter history initial
+unfolding history initial fresh
 runs-are-one-history image insts labels l bytes e qs rs w =
-    let a = room image insts labels l e in
-    let v = valid image l bytes (a .1) in
-    let is = filled (l .insts) insts (omega (arith, v .count-fits, ltb-false (length insts) instLimit (or-left _ _ (a .0)))) in
-    let size : length (l .labels) ≤ labelRecords = rw (v .chain .labels-are) (v .chain .fit) in
-    let ls = filled (l .labels) labels (omega (arith, ltb-false (length labels) labelRecords (or-right (ltb (length insts) instLimit) _ (a .0)))) in
-    let is' = drop (countOf l) insts in
-    let ls' = drop (length (l .labels)) labels in
-    let t = chained image l v is' ls' qs rs 0 (initial (fresh l)) refl (rw (is, ls) at w) in
+    let v = accepted image insts labels l bytes e in
+    let is = is' image insts labels l bytes e in
+    let ls = ls' image insts labels l bytes e in
+    let t = chained image l v is ls qs rs 0 (initial (fresh l)) refl refl (subst (λ (p : Program). RunsFrom p (fresh l) qs rs) (lent-is image insts labels l bytes e) w) in
     let h : history (programOf image l) (initial (fresh l)) (totalSteps rs) ≡ end (t .last) =
-    sym (same-history image l v is' ls' (totalSteps rs)) ∙ (rw zero-add at (t .history-is)) in
+    sym (same-history image l v is ls (totalSteps rs)) ∙ (rw zero-add at (t .history-is)) in
     record {
       last = t .last;
       history-is = h;
@@ -270,3 +273,10 @@ runs-are-one-history image insts labels l bytes e qs rs w =
       always = everywhere image l v _ (t .last) h;
       all-kept = t .all-kept;
     }
+
+pub names-lead-to-last : NamesLeadToLast
+unfolding fresh
+names-lead-to-last image insts labels l bytes e =
+    let v = accepted image insts labels l bytes e in
+    let names = name-found image l v (is' image insts labels l bytes e) (ls' image insts labels l bytes e) in
+    record { names = λ i. rw (lent-is image insts labels l bytes e) (names i); start = v .start-is }

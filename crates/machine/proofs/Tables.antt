@@ -1,6 +1,6 @@
 -- The step over the lent tables is the step over the loader's lists: what stands behind the filled slots is never met. Assumes nothing.
 use Prim.Native.Nat.{ℕ, zero, suc, _+_, _≤_, _<_}
-use mathlib.Core.Path.{_≡_, refl, ap, _∙_, sym}
+use mathlib.Core.Path.{_≡_, refl, ap, _∙_, sym, subst}
 use mathlib.Core.Bool.{Bool, true, false, cond}
 use mathlib.Core.List.{List, [], _∷_, _++_}
 use native.Mathlib.Omega.{arith}
@@ -12,12 +12,13 @@ use Rattle.inst.specs.Records.{part}
 use Rattle.machine.specs.declared.Machine.{Machine}
 use Rattle.machine.specs.declared.Label.{Label}
 use Rattle.machine.specs.Limits.{stackLimit, callLimit}
-use Rattle.machine.specs.Load.{halt, same, nameOf, startName, head, Entry, noEntry, entry, lastOf, Loaded, countOf}
+use Rattle.machine.specs.Load.{halt, same, nameOf, head, Entry, noEntry, entry, lastOf, Loaded, countOf}
 use Rattle.machine.specs.Change.{callHeight}
 use Rattle.machine.specs.Lookup.{Program, Found, illChain, noLabel, leadsTo, labelAt, walk, lookupFrom, lookup}
 use Rattle.machine.specs.Step.{instAt, wellState, step, exec, opOf}
 use Rattle.inst.proofs.Laws.{by-test}
-use Rattle.machine.proofs.Valid.{Definition, Valid, well-at}
+use Rattle.machine.specs.Statements.{FindsLast}
+use Rattle.machine.proofs.Valid.{Definition, LastIs, Valid, well-at}
 
 -- the loader's lists with anything behind them
 abbrev pub padded : List ℕ → Loaded → List Inst → List Label → Program
@@ -83,11 +84,11 @@ module _ (image name : List ℕ) where
   last-found [] e = refl
   last-found (l ∷ d) e = last-found d (cond (same name (nameOf image l)) (entry (l .target)) e) ∙ sym (earlier l d (length d) e)
 
-  found-target : (f : Found) (t : ℕ) → entryOr noEntry f ≡ entry t → f ≡ leadsTo t
-  unfolding entryOr
-  found-target illChain t e = absurd (let z : _≡_ {A = ℕ} 0 1 = cc in omega arith)
-  found-target noLabel t e = absurd (let z : _≡_ {A = ℕ} 0 1 = cc in omega arith)
-  found-target (leadsTo u) t e = cc
+  finds-last : (n : ℕ) (is : List Inst) (f : Found) → Inside n f → LastIs image is name (entryOr noEntry f) → FindsLast image is name f
+  unfolding Inside LastIs FindsLast entryOr
+  finds-last n is illChain i h = i
+  finds-last n is noLabel i h = h
+  finds-last n is (leadsTo t) i h = h
 
 module _ (image : List ℕ) (l : Loaded) (v : Valid image l) where
   -- the lookup of an instruction's name among the loaded labels
@@ -112,11 +113,13 @@ module _ (image : List ℕ) (l : Loaded) (v : Valid image l) where
         let w = walk-finds image (part image (i .start) (i .len)) p d refl (v .chain .definitions) filled (length d) (length (p .labels)) (length (p .labels)) (omega arith) (omega arith) (omega arith) in
         ap (λ (x : List Label). lookupFrom p (part image (i .start) (i .len)) (x ++ ls)) (v .chain .labels-are) ∙ w
 
-    -- a jump to `_start` leads to where the fresh machine starts
-    pub start-found : (i : Inst) → part image (i .start) (i .len) ≡ startName → lookup p i ≡ leadsTo (l .ip)
-    start-found i e =
-        lookup-is i ∙ ap (λ (n : List ℕ). find image n (v .chain .defined) (length (v .chain .defined))) e
-        ∙ found-target image startName _ (l .ip) (sym (last-found image startName (v .chain .defined) noEntry) ∙ v .start-is)
+    -- to the last definition
+    pub name-found : (i : Inst) → FindsLast image (l .insts) (part image (i .start) (i .len)) (lookup p i)
+    name-found i =
+        let name = part image (i .start) (i .len) in
+        rw (lookup-is i)
+        (finds-last image name (countOf l) (l .insts) _ (name-inside i)
+        (subst (LastIs image (l .insts) name) (last-found image name (v .chain .defined) noEntry) (v .chain .last-are name)))
 
     pub inst-is : (m : Machine) → m .ip < countOf l → instAt p m ≡ getD (l .insts) (m .ip) halt
     inst-is m h = List·getD-append (l .insts) is halt (m .ip) h

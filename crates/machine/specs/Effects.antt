@@ -15,6 +15,11 @@ pub data Outcome : Type 0 where
 pub data Calls : Type 0 where
   opens closes keeps : Calls
 
+unfoldable pub callGain : Calls → ℤ
+callGain opens = pos 1
+callGain closes = negℤ (pos 1)
+callGain keeps = pos 0
+
 -- the effect on height untrapped; so many cells less with one of these traps, and 0 with others; the effect on the calls
 pub record Effects : Type 0 where
   pub gain : ℤ
@@ -67,11 +72,17 @@ dropLast [] = []
 dropLast (x ∷ []) = []
 dropLast (x ∷ y ∷ l) = x ∷ dropLast (y ∷ l)
 
+-- the open calls that a step leaves; or `lacking`, where it is to remove one and none is open
+pub data Opened : Type 0 where
+  lacking : Opened
+  leaves : List ℕ → Opened
+
 -- The open calls after the instruction with the index i. CALL, untrapped or with 27, puts its own index last, but not with 23;
--- RET, untrapped, removes the last
-unfoldable pub openCalls : Calls → Outcome → ℕ → List ℕ → List ℕ
-openCalls keeps o i l = l
-openCalls opens untrapped i l = l ++ (i ∷ [])
-openCalls opens (trapped t) i l = cond (eqb t 27) (l ++ (i ∷ [])) l
-openCalls closes untrapped i l = dropLast l
-openCalls closes (trapped t) i l = l
+-- RET, untrapped, removes the last, and there has to be one
+unfoldable pub openCalls : Calls → Outcome → ℕ → List ℕ → Opened
+openCalls keeps o i l = leaves l
+openCalls opens untrapped i l = leaves (l ++ (i ∷ []))
+openCalls opens (trapped t) i l = leaves (cond (eqb t 27) (l ++ (i ∷ [])) l)
+openCalls closes untrapped i [] = lacking
+openCalls closes untrapped i (x ∷ l) = leaves (dropLast (x ∷ l))
+openCalls closes (trapped t) i l = leaves l

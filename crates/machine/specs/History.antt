@@ -7,7 +7,7 @@ use Rattle.machine.specs.declared.Machine.{Machine}
 use Rattle.machine.specs.Load.{Loaded, countOf}
 use Rattle.machine.specs.Lookup.{Program}
 use Rattle.machine.specs.Step.{Stepped, succeeds, outputs, trap, ill, opOf, instAt, step}
-use Rattle.machine.specs.Effects.{Outcome, untrapped, trapped, Effects, effects, effect, openCalls}
+use Rattle.machine.specs.Effects.{Outcome, untrapped, trapped, Effects, effects, effect, Opened, lacking, leaves, openCalls}
 
 -- a machine, a height, a list of open calls (those not yet returned from) and a list of dumps
 pub record State : Type 0 where
@@ -25,22 +25,23 @@ pub data History : Type 0 where
   none : History
   end : State → History
 
+-- the state with the open calls that are left; none where RET finds no call to remove
+unfoldable pub endWith : (List ℕ → State) → Opened → History
+endWith state lacking = none
+endWith state (leaves l) = end (state l)
+
 -- After a step of an instruction with the effects e that left the machine m: the height gains the listed effect, the open calls change as listed by the
 -- step's own index, and the dumped cells are put last.
-unfoldable pub advance : State → Effects → Outcome → Machine → List ℕ → State
+unfoldable pub advance : State → Effects → Outcome → Machine → List ℕ → History
 advance s e o m cells =
-    record {
-      machine = m;
-      height = s .height +ℤ effect e o;
-      open-calls = openCalls (e .on-calls) o (s .machine .ip) (s .open-calls);
-      dumps = s .dumps ++ cells;
-    }
+    endWith (λ (l : List ℕ). record { machine = m; height = s .height +ℤ effect e o; open-calls = l; dumps = s .dumps ++ cells })
+    (openCalls (e .on-calls) o (s .machine .ip) (s .open-calls))
 
 -- always with room for a dump; none where 34 holds
 unfoldable pub stepped : State → Effects → Stepped → History
-stepped s e (succeeds m) = end (advance s e untrapped m [])
-stepped s e (outputs c m) = end (advance s e untrapped m (c ∷ []))
-stepped s e (trap t m) = end (advance s e (trapped t) m [])
+stepped s e (succeeds m) = advance s e untrapped m []
+stepped s e (outputs c m) = advance s e untrapped m (c ∷ [])
+stepped s e (trap t m) = advance s e (trapped t) m []
 stepped s e ill = none
 
 -- the program of an accepted image: the loader's lists and no more

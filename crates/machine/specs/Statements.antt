@@ -1,19 +1,20 @@
--- What is proved of runs, as statements: of every run, that it is a history; demand 3; and that no recursion's bound is used up. Definitions only.
+-- What is proved of runs, as statements: of every run, that it is a history; demand 3; where a name leads; and that no recursion's bound is used up.
+-- Definitions only.
 use Prim.Native.Nat.{ℕ, suc, _+_, _≤_, _<_}
 use mathlib.Core.Path.{_≡_}
 use mathlib.Core.Bool.{true, false}
 use mathlib.Core.List.{List, [], _∷_, _++_, map}
 use lib.IntN.{pos}
-use lib.ListN.{length, take, drop}
+use lib.ListN.{length, getD, take, drop}
 use Rattle.inst.specs.declared.Inst.{Inst}
-use Rattle.inst.specs.Records.{Bytes}
+use Rattle.inst.specs.Records.{part, Bytes}
 use Rattle.machine.specs.declared.Machine.{Machine}
 use Rattle.machine.specs.declared.Label.{Label}
 use Rattle.machine.specs.declared.Ending.{Ending}
 use Rattle.machine.specs.declared.Ending.the-variants.{Halted, Limit, Number}
-use Rattle.machine.specs.Load.{Loaded, accepts, load, instsAfter, labelsAfter, fresh, countOf, Scan, goes, begin, scan}
+use Rattle.machine.specs.Load.{halt, startName, Loaded, accepts, load, instsAfter, labelsAfter, fresh, countOf, Scan, goes, begin, scan}
 use Rattle.machine.specs.Change.{callHeight}
-use Rattle.machine.specs.Lookup.{Program, walk}
+use Rattle.machine.specs.Lookup.{Program, Found, illChain, noLabel, leadsTo, walk, lookup}
 use Rattle.machine.specs.Step.{trap, ill, step}
 use Rattle.machine.specs.Run.{isDump, Result, run}
 use Rattle.machine.specs.History.{State, initial, end, programOf, history}
@@ -40,19 +41,31 @@ Because p s steps limit dumped room m Halted = m .halted ≡ true
 Because p s steps limit dumped room m Limit = (m .halted ≡ false) × (steps ≡ limit)
 Because p s steps limit dumped room m (Number n) = Why p s steps limit dumped room m n
 
--- the result r of a run of p from m is the history of as many steps as it reports, and its ending's condition holds
-pub record IsHistory (p : Program) (m : Machine) (q : Request) (r : Result) : Type 0 where
+-- the result r of a run of p from the state s is the history of as many steps as it reports, and its ending's condition holds; the buffer handed back has
+-- the length of the one lent
+pub record IsHistory (p : Program) (s : State) (q : Request) (r : Result) : Type 0 where
   pub last : State
-  pub history-is : history p (initial m) (r .steps) ≡ end last
+  pub history-is : history p s (r .steps) ≡ end last
   pub machine-is : r .machine ≡ last .machine
-  pub dumps-are : take (r .dumped) (r .buffer) ≡ last .dumps
+  pub size-is : length (r .buffer) ≡ length (q .buffer)
+  pub dumps-are : last .dumps ≡ s .dumps ++ take (r .dumped) (r .buffer)
   pub rest-is : drop (r .dumped) (r .buffer) ≡ drop (r .dumped) (q .buffer)
   pub within : r .steps ≤ q .limit
   pub fits : r .dumped ≤ length (q .buffer)
-  pub because : Because p (initial m) (r .steps) (q .limit) (r .dumped) (length (q .buffer)) (r .machine) (r .ending)
+  pub because : Because p s (r .steps) (q .limit) (r .dumped) (length (q .buffer)) (r .machine) (r .ending)
+  -- a step that traps is the last of the run, which ends with its number
+  pub trap-ends : (k : ℕ) (u : State) (t : ℕ) (m : Machine) → k < r .steps → history p s k ≡ end u → step p (u .machine) ≡ trap t m
+      → (suc k ≡ r .steps) × (r .ending ≡ Number t)
 
+-- of every run, from every state with as many open calls as its machine has return addresses
 abbrev pub RunsAreHistories : Type 0
-RunsAreHistories = (p : Program) (m : Machine) (q : Request) → IsHistory p m q (run p (q .limit) (q .buffer) m)
+RunsAreHistories =
+    (p : Program) (s : State) (q : Request) → callHeight (s .machine) ≡ length (s .open-calls)
+    → IsHistory p s q (run p (q .limit) (q .buffer) (s .machine))
+
+-- and no other result is that history, so that nothing about a run is left free
+abbrev pub OnlyOneResult : Type 0
+OnlyOneResult = (p : Program) (s : State) (q : Request) (r r' : Result) → IsHistory p s q r → IsHistory p s q r' → r ≡ r'
 
 -- ---- demand 3
 
@@ -89,12 +102,13 @@ pub record Below (count : ℕ) (m : Machine) : Type 0 where
   pub pointer-below : m .ip < count
   pub addresses-below : AllBelow count (addresses m)
 
--- one run of a list: it doesn't end with 34, reports at most its limit, and exactly it where it ends by LIMIT; it dumps no more cells
--- than its buffer has
+-- one run of a list: it doesn't end with 34, reports at most its limit, and exactly it where it ends by LIMIT; it hands back a buffer of the
+-- length of the one lent, and dumps no more cells than that has
 pub record Kept (q : Request) (r : Result) : Type 0 where
   pub never-ill : r .ending ≡ Number 34 → ⊥
   pub within : r .steps ≤ q .limit
   pub exact : r .ending ≡ Limit → r .steps ≡ q .limit
+  pub size-is : length (r .buffer) ≡ length (q .buffer)
   pub fits : r .dumped ≤ length (q .buffer)
 
 unfoldable pub AllKept : List Request → List Result → Type 0
@@ -135,6 +149,37 @@ abbrev pub RunsAreOneHistory : Type 0
 RunsAreOneHistory =
     (image : List ℕ) (insts : List Inst) (labels : List Label) (l : Loaded) → Bytes image → load image insts labels ≡ accepts l
     → (qs : List Request) (rs : List Result) → RunsFrom (lent image insts labels l) (fresh l) qs rs → OneHistory image l qs rs
+
+-- ---- names, for every accepted image
+
+-- the instruction i is a LABEL with this name
+pub record Labels (image name : List ℕ) (i : Inst) : Type 0 where
+  pub is-label : i .typ ≡ 21
+  pub name-is : part image (i .start) (i .len) ≡ name
+
+-- the instruction with the index k is a definition of the name
+abbrev pub Defines : List ℕ → List Inst → List ℕ → ℕ → Type 0
+Defines image insts name k = (k < length insts) × Labels image name (getD insts k halt)
+
+-- and the last one
+abbrev pub DefinesLast : List ℕ → List Inst → List ℕ → ℕ → Type 0
+DefinesLast image insts name k = Defines image insts name k × ((j : ℕ) → k < j → Defines image insts name j → ⊥)
+
+-- a lookup of the name leads to its last definition, and finds none exactly where there is none; no chain is ill
+unfoldable pub FindsLast : List ℕ → List Inst → List ℕ → Found → Type 0
+FindsLast image insts name illChain = ⊥
+FindsLast image insts name noLabel = (k : ℕ) → Defines image insts name k → ⊥
+FindsLast image insts name (leadsTo t) = DefinesLast image insts name t
+
+-- a duplicate takes its last definition: in the lookup of every record's name, and `_start`, where the fresh machine's pointer is
+pub record LeadsToLast (image : List ℕ) (l : Loaded) (p : Program) : Type 0 where
+  pub names : (i : Inst) → FindsLast image (l .insts) (part image (i .start) (i .len)) (lookup p i)
+  pub start : DefinesLast image (l .insts) startName (fresh l .ip)
+
+abbrev pub NamesLeadToLast : Type 0
+NamesLeadToLast =
+    (image : List ℕ) (insts : List Inst) (labels : List Label) (l : Loaded) → Bytes image → load image insts labels ≡ accepts l
+    → LeadsToLast image l (lent image insts labels l)
 
 -- ---- the numbers that bound the recursions of load and lookup only let the definitions end
 

@@ -2,14 +2,16 @@
 use mathlib.Core.Path.{_≡_}
 use mathlib.Core.Bool.{true}
 use Rattle.machine.specs.Steps.{TrapsLeave, StepsTouch}
-use Rattle.machine.specs.Statements.{RunsAreHistories, RunsAreOneHistory, ReadsToEnd, WalksToEnd}
+use Rattle.machine.specs.Statements.{RunsAreHistories, OnlyOneResult, RunsAreOneHistory, NamesLeadToLast, ReadsToEnd, WalksToEnd}
 use Rattle.machine.specs.Marks.{marks, allHold}
 
 pub record Theorems : Type 0 where
   pub one-history : RunsAreOneHistory
   pub runs : RunsAreHistories
+  pub only-one : OnlyOneResult
   pub traps-leave : TrapsLeave
   pub steps-touch : StepsTouch
+  pub names-lead-to-last : NamesLeadToLast
   pub reads-to-end : ReadsToEnd
   pub walks-to-end : WalksToEnd
   pub marks-hold : allHold marks ≡ true

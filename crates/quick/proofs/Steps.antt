@@ -14,7 +14,7 @@ use Rattle.machine.specs.Lookup.{Program, leadsTo, lookup}
 use Rattle.machine.specs.Step.{Stepped, succeeds, ill, exec, opOf, step, wellState, instAt}
 use Rattle.machine.specs.Run.{Course, course, turn, before, taken, isIll, isDump, after}
 use Rattle.quick.proofs.Turns.{course-turn, before-on}
-use Rattle.tables.specs.Tables.{inst}
+use Rattle.tables.specs.Tables.{numberAt, inst}
 use Rattle.step_core.specs.declared.Core.{Core}
 use Rattle.step_core.specs.Parts.{whole, Inside}
 use Rattle.quick.specs.declared.Quick.the-variants.{Success}
@@ -26,8 +26,8 @@ use Rattle.quick.specs.Courses.{plus, Leads}
 module _ (p : Program) (xs : List ℕ) (o : Over p xs) (m : Machine) where
   module _ (key t : ℕ) (k : KnownAt p xs key t (m .ip)) where
     -- the record with its key
-    keyed : instOf xs (m .ip) ≡ inst key (getD xs (m .ip * 4 + 1) 0) (getD xs (m .ip * 4 + 2) 0) (getD xs (m .ip * 4 + 3) 0)
-    keyed = ap (λ (n : ℕ). inst n (getD xs (m .ip * 4 + 1) 0) (getD xs (m .ip * 4 + 2) 0) (getD xs (m .ip * 4 + 3) 0)) (k .typ-is)
+    keyed : instOf xs (m .ip) ≡ inst key (numberAt xs (m .ip * 4 + 1)) (numberAt xs (m .ip * 4 + 2)) (numberAt xs (m .ip * 4 + 3))
+    keyed = ap (λ (n : ℕ). inst n (numberAt xs (m .ip * 4 + 1)) (numberAt xs (m .ip * 4 + 2)) (numberAt xs (m .ip * 4 + 3))) (k .typ-is)
 
     module _ (h : m .height ≤ stackLimit) (d : change.callHeight m ≤ callLimit) where
       well : wellState p m ≡ true
@@ -36,7 +36,7 @@ module _ (p : Program) (xs : List ℕ) (o : Over p xs) (m : Machine) where
 
       -- a known instruction's step
       pub known-step :
-          step p m ≡ exec (lookup p (instOf xs (m .ip))) (inst key (getD xs (m .ip * 4 + 1) 0) (getD xs (m .ip * 4 + 2) 0) (getD xs (m .ip * 4 + 3) 0)) m (opOf key)
+          step p m ≡ exec (lookup p (instOf xs (m .ip))) (inst key (numberAt xs (m .ip * 4 + 1)) (numberAt xs (m .ip * 4 + 2)) (numberAt xs (m .ip * 4 + 3))) m (opOf key)
       unfolding step
       known-step = rw well (rw (inst-is p xs o m (k .below)) (ap (λ (i : Inst). exec (lookup p (instOf xs (m .ip))) i m (opOf (i .typ))) keyed))
 
@@ -77,8 +77,8 @@ module _ (xs keys targets : List ℕ) where
 
     -- one more was made
     module _ (l : 0 < left) (h : c .ip < knownLimit) (n : Core) (g : ℕ) (s' ca' me' : List ℕ)
-        (q : ExecutesKnown (getD keys (c .ip) 0) (getD xs (c .ip * 4 + 1) 0) (getD targets (c .ip) 0) c f s ca me (Success n g) s' ca' me') where
-      any : StepOrStop (stepAt (leadsTo (getD targets (c .ip) 0)) (inst (getD keys (c .ip) 0) (getD xs (c .ip * 4 + 1) 0) 0 0) (whole c f s ca me false)) s ca me s' ca' me' (Success n g)
+        (q : ExecutesKnown (getD keys (c .ip) 0) (numberAt xs (c .ip * 4 + 1)) (getD targets (c .ip) 0) c f s ca me (Success n g) s' ca' me') where
+      any : StepOrStop (stepAt (leadsTo (getD targets (c .ip) 0)) (inst (getD keys (c .ip) 0) (numberAt xs (c .ip * 4 + 1)) 0 0) (whole c f s ca me false)) s ca me s' ca' me' (Success n g)
       any = q (leadsTo (getD targets (c .ip) 0)) 0 0 (λ _. refl)
 
       is-known : getD keys (c .ip) 0 ≡ unknown → ⊥
@@ -92,7 +92,7 @@ module _ (xs keys targets : List ℕ) where
       unfolding stepAt
       stepped p o k =
           let a = k (c .ip) h is-known in
-          let d = simp (ne-eqb _ _ is-known) at (q (lookup p (instOf xs (c .ip))) (getD xs (c .ip * 4 + 2) 0) (getD xs (c .ip * 4 + 3) 0) (a .target-is) .holds .0) in
+          let d = simp (ne-eqb _ _ is-known) at (q (lookup p (instOf xs (c .ip))) (numberAt xs (c .ip * 4 + 2)) (numberAt xs (c .ip * 4 + 3)) (a .target-is) .holds .0) in
           known-step p xs o (whole c f s ca me false) (getD keys (c .ip) 0) (getD targets (c .ip) 0) a (inv .small .0) (inv .small .1) ∙ sym d
 
       pub success-on : Leads xs keys targets m₀ steps (record { core = n; left = left - 1; flags = g }) s' ca' me'

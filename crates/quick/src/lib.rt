@@ -10,6 +10,7 @@ ghost use Rattle.machine.specs.Step as definition;
 ghost use Rattle.machine.specs.Change.{onward};
 ghost use Rattle.flag.specs.Flags.{isSet};
 ghost use Rattle.step_core.specs.Parts.{Inside, whole};
+ghost use Rattle.tables.specs.Tables.{numberAt};
 ghost use Rattle.known.specs.Known.{knownLimit, unknown, Listed};
 ghost use Rattle.quick.specs.Quick.{QuickOnCore, QuickOnCalls, ExecutesKnown, successOf};
 ghost use Rattle.quick.specs.Courses.{Leads};
@@ -25,6 +26,7 @@ use step_flow::calls::ret;
 use step_flow::jumps::compare;
 use step_integer::integer_step;
 use step_stack::cells;
+use tables::number_at;
 
 // The machine's numbers and flags after the step; or no step was made.
 pub enum Quick {
@@ -129,7 +131,7 @@ fn call_known(
 // PUSH, the most frequent, is last: the compiler lets the last arm run on into the next turn, without a jump.
 fn execute_known(
     key: u8,
-    insts: &[u64],
+    insts: &[u8],
     targets: &[u16; KNOWN_LIMIT],
     flags: u8,
     core: Core,
@@ -137,8 +139,8 @@ fn execute_known(
     calls: &mut [u64; CALL_LIMIT],
     memory: &mut [u8; MEMORY_SIZE],
 ) -> Quick
-    requires { ⌜ Inside core × (core .ip < knownLimit) × ((key ≡ unknown → ⊥) → core .ip * 4 + 3 < length (now insts)) ⌝ }
-    ensures { λ r. ⌜ ExecutesKnown key (getD (now (insts .entry)) (core .ip * 4 + 1) 0) (getD (now (targets .entry)) (core .ip) 0) core flags (now (stack .entry)) (now (calls .entry)) (now (memory .entry)) r (now (stack .exit)) (now (calls .exit)) (now (memory .exit)) ⌝ }
+    requires { ⌜ Inside core × (core .ip < knownLimit) × ((key ≡ unknown → ⊥) → core .ip * 32 + 31 < length (now insts)) ⌝ }
+    ensures { λ r. ⌜ ExecutesKnown key (numberAt (now (insts .entry)) (core .ip * 4 + 1)) (getD (now (targets .entry)) (core .ip) 0) core flags (now (stack .entry)) (now (calls .entry)) (now (memory .entry)) r (now (stack .exit)) (now (calls .exit)) (now (memory .exit)) ⌝ }
 {
     let ip = core.ip;
     match key {
@@ -151,8 +153,11 @@ fn execute_known(
         7 => success(integer_step(core, stack, 7), flags),
         8 => success(integer_step(core, stack, 8), flags),
         9 => success(compare(core, stack), flags),
-        10 => success(cells::swap(core, stack, insts[ip * 4 + 1]), flags),
-        11 => success(cells::dup(core, stack, insts[ip * 4 + 1]), flags),
+        10 => success(
+            cells::swap(core, stack, number_at(insts, ip * 4 + 1)),
+            flags,
+        ),
+        11 => success(cells::dup(core, stack, number_at(insts, ip * 4 + 1)), flags),
         12 => jump_if_known(core, flags, 12, targets),
         13 => jump_if_known(core, flags, 13, targets),
         14 => jump_if_known(core, flags, 14, targets),
@@ -186,7 +191,10 @@ fn execute_known(
         43 => success(step_memory::write(core, stack, memory), flags),
         44 => success(step_memory::read(core, stack, memory), flags),
         45 => success(step_memory::write(core, stack, memory), flags),
-        1 => success(cells::push(core, stack, insts[ip * 4 + 1]), flags),
+        1 => success(
+            cells::push(core, stack, number_at(insts, ip * 4 + 1)),
+            flags,
+        ),
         _ => Quick::Stop,
     }
 }
@@ -212,7 +220,7 @@ fn stopped(core: Core, left: u64, flags: u8) -> Reached
 // dump nothing and don't trap lead to the machine of core, flags and the arrays. Steps are counted down: one machine
 // instruction counts and tests.
 pub fn run_known(
-    insts: &[u64],
+    insts: &[u8],
     keys: &[u8; KNOWN_LIMIT],
     targets: &[u16; KNOWN_LIMIT],
     start: Core,

@@ -12,10 +12,10 @@ use trace::replay_image;
 // More bytes than the sample has.
 const INPUT: usize = 262144;
 
-// The numbers of the tables: 4,096 and 513 records.
-const INST_NUMBERS: usize = 16384;
+// The bytes of the tables: 4,096 and 513 records.
+const INST_BYTES: usize = 131072;
 
-const LABEL_NUMBERS: usize = 2052;
+const LABEL_BYTES: usize = 16416;
 
 // Where a record's parts lie: the image from `image` to `end`, the digests from `digests` to `next`, the next record.
 struct Record {
@@ -96,8 +96,8 @@ fn replay_record(bytes: &[u8], r: Record) -> Replayed
     requires { ⌜ Lies (length (now bytes)) r ⌝ }
     ensures { λ s. ⌜ r .digests + s .steps ≤ r .next ⌝ }
 {
-    let mut insts = [0u64; INST_NUMBERS];
-    let mut labels = [0u64; LABEL_NUMBERS];
+    let mut insts = [0u8; INST_BYTES];
+    let mut labels = [0u8; LABEL_BYTES];
     let image = r.image;
     let end = r.end;
     let digests = r.digests;

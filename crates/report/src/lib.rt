@@ -1,10 +1,12 @@
 // The text of the lines that `runimage` prints, put into a lent text from an offset on. Each function returns the offset
 // behind what it wrote. They have a `requires`, that the line fits: only session calls them, and proves it.
 ghost use mathlib.Core.List.{_++_};
-ghost use Prim.Native.Nat.{_+_, _≤_};
-ghost use lib.ListN.{length};
+ghost use Prim.Native.Nat.{_+_, _*_, _≤_};
+ghost use lib.ListN.{length, take};
+ghost use Rattle.tables.specs.Tables.{numbersIn};
 ghost use Rattle.report.specs.Text.{Put, decimal, cellLine, cellLines, endingText, endLine, refusedLine};
 use machine::Ending;
+use tables::number_at;
 
 // Bytes as they are.
 fn put(text: &mut [u8], at: usize, word: &[u8]) -> usize
@@ -37,15 +39,16 @@ pub fn put_cell_line(text: &mut [u8], at: usize, cell: u64) -> usize
     put(text, next, b"\n")
 }
 
-// The lines of dumped cells.
-pub fn put_cell_lines(text: &mut [u8], at: usize, cells: &[u64]) -> usize
-    requires { ⌜ at + length (cellLines (now cells)) ≤ length (now text) ⌝ }
-    ensures { λ r. ⌜ Put (now (text .entry)) at (cellLines (now (cells .entry))) (now (text .exit)) r ⌝ }
+// The lines of the first n cells of a dump buffer.
+pub fn put_cell_lines(text: &mut [u8], at: usize, cells: &[u8], n: usize) -> usize
+    requires { ⌜ n * 8 ≤ length (now cells) ⌝ }
+    requires { ⌜ at + length (cellLines (take n (numbersIn (now cells)))) ≤ length (now text) ⌝ }
+    ensures { λ r. ⌜ Put (now (text .entry)) at (cellLines (take n (numbersIn (now (cells .entry))))) (now (text .exit)) r ⌝ }
 {
     let mut next = at;
     let mut i = 0;
-    while i < cells.len() {
-        next = put_cell_line(text, next, cells[i]);
+    while i < n {
+        next = put_cell_line(text, next, number_at(cells, i));
         i += 1;
     }
     next

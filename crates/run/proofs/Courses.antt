@@ -1,13 +1,17 @@
 -- Laws of courses and of a buffer whose rest was lent. Assumes nothing.
-use Prim.Native.Nat.{ℕ, zero, suc, _≤_, _<_, _-_, _+_}
+use Prim.Native.Nat.{ℕ, zero, suc, _≤_, _<_, _-_, _+_, _*_, _/_}
 use mathlib.Core.Path.{_≡_, refl, _∙_, sym, ap}
 use mathlib.Core.Bool.{true, false}
 use mathlib.Core.List.{List, [], _∷_, _++_, append-nil, append-assoc}
 use native.Mathlib.Numerals.{add-one}
 use native.Mathlib.Nat.{zero-add, add-zero}
 use native.Mathlib.Omega.{arith}
-use lib.ListN.{length, set, take, drop, length-drop}
-use lib.Seq.{take-suc-set, drop-drop, set-split, drop-cons, take-length, drop-length}
+use lib.ListN.{length, take}
+use lib.Seq.{sets, take-suc-set, length-take-le}
+use Rattle.inst.proofs.Laws.{sets-more}
+use Rattle.word.specs.Words.{eightOf}
+use Rattle.tables.specs.Tables.{numbersIn, bytesOf}
+use Rattle.tables.proofs.Bytes.{length-numbers-in, number-set, length-bytes, bytes-append}
 use Rattle.machine.specs.declared.Machine.{Machine}
 use Rattle.machine.specs.declared.Ending.{Ending}
 use Rattle.machine.specs.declared.Ending.the-variants.{Halted, Limit, Number}
@@ -16,7 +20,7 @@ use Rattle.machine.specs.Step.{ill, step, wellState}
 use Rattle.machine.specs.Run.{Course, ended, after, isIll, turn, course}
 use Rattle.quick.specs.Courses.{plus}
 use Rattle.quick.proofs.Turns.{course-turn, before-halted, before-limit, before-ill}
-use Rattle.run.specs.Turns.{more, Rests}
+use Rattle.run.specs.Turns.{more, Rests, Written}
 
 pub more-none : (r : Course) → more 0 [] r ≡ r
 unfolding more
@@ -68,18 +72,26 @@ module _ (p : Program) (left room : ℕ) (m : Machine) where
 pub resting : (p : Program) (left : ℕ) → Rests (course p left)
 resting p left room m h = halts p left room m h
 
--- the rest from n on was lent, and came back with its first cell written
-pub lent-set : (b ys : List ℕ) (n x : ℕ) → n < length b → ys ≡ set (take (length b - n) (drop n b)) 0 x →
-    take n b ++ (ys ++ drop (length b - n) (drop n b)) ≡ set b n x
-lent-set b ys n x h q =
-    let l : length b - n ≡ length (drop n b) = simp length-drop in
-    rw q (simp (l, drop-length, take-length, append-nil) (rw (set-split b n x, drop-cons b n 0) refl))
+-- a cell more
+pub took : (b : List ℕ) (n x : ℕ) → n < length b / 8 → take (n + 1) (numbersIn (sets b (n * 8) (eightOf x))) ≡ take n (numbersIn b) ++ (x ∷ [])
+took b n x h =
+    let l : n < length (numbersIn b) = rw (length-numbers-in b) h in
+    rw (number-set b n x, add-one, take-suc-set (numbersIn b) n x l) refl
 
-pub took : (b : List ℕ) (n x : ℕ) → n < length b → take (n + 1) (set b n x) ≡ take n b ++ (x ∷ [])
-took b n x h = rw (add-one, take-suc-set)
+-- the buffer with none, and with one more
+pub none-written : (b : List ℕ) → Written 0 b b
+unfolding bytesOf
+none-written b = refl
 
--- past n the buffer is as before: so past n' above it
-pub past : (b b₀ : List ℕ) (n n' : ℕ) → n ≤ n' → drop n b ≡ drop n b₀ → drop n' b ≡ drop n' b₀
-past b b₀ n n' h e =
-    let q : n' ≡ n + (n' - n) = omega arith in
-    rw q (sym (drop-drop (n' - n) n b) ∙ ap (drop (n' - n)) e ∙ drop-drop (n' - n) n b₀)
+pub cell-written : (b b₀ : List ℕ) (n x : ℕ) → n < length b / 8 → Written n b₀ b → Written (n + 1) b₀ (sets b (n * 8) (eightOf x))
+unfolding bytesOf eightOf
+cell-written b b₀ n x h e =
+    let cells = take n (numbersIn b) in
+    let l = length-numbers-in b in
+    let m : length cells ≡ n = length-take-le n (numbersIn b) (omega arith) in
+    let k : n * 8 ≡ 0 + length (bytesOf cells) = omega (arith, length-bytes cells) in
+    ap (λ (y : List ℕ). sets y (n * 8) (eightOf x)) e
+    ∙ ap (λ (i : ℕ). sets (sets b₀ 0 (bytesOf cells)) i (eightOf x)) k
+    ∙ sets-more (bytesOf cells) b₀ (eightOf x) 0
+    ∙ ap (sets b₀ 0) (sym (bytes-append cells (x ∷ [])))
+    ∙ ap (λ (y : List ℕ). sets b₀ 0 (bytesOf y)) (sym (took b n x h))

@@ -2,12 +2,12 @@
 use Prim.Native.Nat.{ℕ, _≤_, _<_, _-_, _+_, _*_, _/_, _^_}
 use mathlib.Core.Path.{_≡_, refl, _∙_, sym, ap}
 use mathlib.Core.Bool.{Bool, true, false, and-false}
-use mathlib.Core.List.{List, _++_}
+use mathlib.Core.List.{List}
 use native.Mathlib.Omega.{arith}
 use native.Mathlib.Nat.{sub-zero}
 use lib.Dec.{eqb}
-use lib.ListN.{length, take, drop, replicate, length-replicate, getD-replicate, take-append-drop}
-use lib.Seq.{length-take-le, sets, sets-eq}
+use lib.ListN.{length, take, replicate, length-replicate, getD-replicate}
+use lib.Seq.{length-take-le}
 use borrow.Author.Tests.{lt-leb}
 use Rattle.inst.specs.Records.{nameIn}
 use Rattle.inst.proofs.Laws.{never}
@@ -16,17 +16,18 @@ use Rattle.machine.specs.declared.Machine.{Machine}
 use Rattle.machine.specs.Limits.{stackLimit, callLimit}
 use Rattle.machine.specs.Lookup.{Program}
 use Rattle.machine.specs.Step.{wellState}
-use Rattle.machine.specs.Run.{ended, course, reported, run}
-use Rattle.tables.specs.Tables.{inst, instsOf}
+use Rattle.machine.specs.Run.{ended, course}
+use Rattle.tables.specs.Tables.{numbersIn, inst, instsOf}
 use Rattle.tables.proofs.Laws.{length-records}
+use Rattle.tables.proofs.Bytes.{length-numbers-in}
 use Rattle.step_core.specs.declared.Core.{Core}
 use Rattle.step_core.specs.Parts.{callHeight, whole, Inside}
 use Rattle.lookup.specs.Walks.{lent}
 use Rattle.known.specs.Known.{knownLimit, unknown, Known}
 use Rattle.run.specs.declared.progress.Progress.{Progress}
 use Rattle.run.specs.Turns.{endingOf, closed, asking, ending}
-use Rattle.run.specs.Runs.{Reaches, Begins}
-use Rattle.run.proofs.Courses.{more-none, halts, spends, ills}
+use Rattle.run.specs.Runs.{Reaches, Begins, runBytes}
+use Rattle.run.proofs.Courses.{more-none, halts, spends, ills, none-written}
 use Rattle.run.proofs.Running.{stands-over}
 
 module _ (image xs : List ℕ) (labels : List Label) (count : ℕ) (c : Core) (f : ℕ) (s ca me : List ℕ) where
@@ -38,14 +39,14 @@ module _ (image xs : List ℕ) (labels : List Label) (count : ℕ) (c : Core) (f
   unfolding wellState
   too-deep h = simp (lt-leb _ _ h, and-false)
 
-  pub too-many : length xs / 4 < count → wellState (lent image (instsOf xs) labels count) (whole c f s ca me false) ≡ false
+  pub too-many : length xs / 32 < count → wellState (lent image (instsOf xs) labels count) (whole c f s ca me false) ≡ false
   unfolding wellState
   too-many h = let l : length (instsOf xs) < count = omega (arith, length-records inst xs) in simp (lt-leb _ _ l, and-false)
 
 -- a run that makes no step
 module _ (p : Program) (xs b : List ℕ) (limit : ℕ) (c : Core) (f : ℕ) (h : Bool) (s ca me : List ℕ) where
   at-once : (left kind number : ℕ) → left ≡ limit → h ≡ eqb kind 0 →
-      course p limit (length b) (whole c f s ca me h) ≡ ended (endingOf kind number) (whole c f s ca me h) →
+      course p limit (length b / 8) (whole c f s ca me h) ≡ ended (endingOf kind number) (whole c f s ca me h) →
       Begins p xs b limit c f h s ca me (ending c f left 0 kind number)
   at-once left kind number q i r =
       let z : limit - left ≡ 0 = omega arith in
@@ -53,20 +54,20 @@ module _ (p : Program) (xs b : List ℕ) (limit : ℕ) (c : Core) (f : ℕ) (h :
         stands = stands-over (replicate knownLimit unknown) (replicate knownLimit 0) refl (record {
           is = ap (λ (n : ℕ). closed n (ending c f left 0 kind number) b s ca me) z ∙ ap (λ (x : Bool). ended (endingOf kind number) (whole c f s ca me x)) (sym i) ∙ sym r;
           long = refl;
-          rest-kept = refl;
+          written = none-written b;
           fewer = omega arith;
           filled = omega arith;
         });
       }
 
   pub begins-halted : h ≡ true → Begins p xs b limit c f h s ca me (ending c f limit 0 0 0)
-  begins-halted i = at-once limit 0 0 refl i (halts p limit (length b) (whole c f s ca me h) i)
+  begins-halted i = at-once limit 0 0 refl i (halts p limit (length b / 8) (whole c f s ca me h) i)
 
   pub begins-spent : h ≡ false → limit ≡ 0 → Begins p xs b limit c f h s ca me (ending c f 0 0 1 0)
-  begins-spent i z = at-once 0 1 0 (sym z) i (spends p limit (length b) (whole c f s ca me h) i z)
+  begins-spent i z = at-once 0 1 0 (sym z) i (spends p limit (length b / 8) (whole c f s ca me h) i z)
 
   pub begins-ill : h ≡ false → (limit ≡ 0 → ⊥) → wellState p (whole c f s ca me false) ≡ false → Begins p xs b limit c f h s ca me (ending c f limit 0 2 34)
-  begins-ill i z w = at-once limit 2 34 refl i (ills p limit (length b) (whole c f s ca me h) i (omega (arith, z)) (rw i w))
+  begins-ill i z w = at-once limit 2 34 refl i (ills p limit (length b / 8) (whole c f s ca me h) i (omega (arith, z)) (rw i w))
 
 -- a fresh array knows nothing
 nothing : (p : Program) (xs targets : List ℕ) → Known p xs (replicate knownLimit unknown) targets
@@ -79,7 +80,7 @@ outside image h = rw (lt-leb (0xFFFFFFFFFFFFFFFF + 0xFFFFFFFFFFFFFFFF) (length i
 
 -- a run that makes steps
 pub begins-on : (image xs : List ℕ) (labels : List Label) (count : ℕ) (b : List ℕ) (limit : ℕ) (c : Core) (f : ℕ) (h : Bool) (s ca me : List ℕ) → length image < 2 ^ 64 →
-    h ≡ false → Inside c → count * 4 ≤ length xs →
+    h ≡ false → Inside c → count * 32 ≤ length xs →
     Begins (lent image (instsOf xs) labels count) xs b limit c f h s ca me (asking c f limit 0 0xFFFFFFFFFFFFFFFF 0xFFFFFFFFFFFFFFFF)
 begins-on image xs labels count b limit c f h s ca me fits i small inside =
     let z : limit - limit ≡ 0 = omega arith in
@@ -91,7 +92,7 @@ begins-on image xs labels count b limit c f h s ca me fits i small inside =
           fewer = omega arith;
           filled = omega arith;
           long = refl;
-          rest-kept = refl;
+          written = none-written b;
           over = record { table = refl; inside = inside };
           known = nothing _ xs (replicate knownLimit 0);
           sized = record { keys-long = length-replicate {A = ℕ} knownLimit unknown; targets-long = length-replicate {A = ℕ} knownLimit 0 };
@@ -102,13 +103,10 @@ begins-on image xs labels count b limit c f h s ca me fits i small inside =
     }
 
 -- what a run reports
-pub reports : (p : Program) (m : Machine) (limit : ℕ) (b : List ℕ) (o : Progress) (b' s ca me : List ℕ) → Reaches (course p limit (length b) m) limit b o b' s ca me →
-    record { machine = whole (o .core) (o .flags) s ca me (eqb (o .ending) 0); ending = endingOf (o .ending) (o .number); steps = limit - o .left; dumped = o .dumped; buffer = b' } ≡ run p limit b m
-unfolding run reported
+pub reports : (p : Program) (m : Machine) (limit : ℕ) (b : List ℕ) (o : Progress) (b' s ca me : List ℕ) → Reaches (course p limit (length b / 8) m) limit b o b' s ca me →
+    record { machine = whole (o .core) (o .flags) s ca me (eqb (o .ending) 0); ending = endingOf (o .ending) (o .number); steps = limit - o .left; dumped = o .dumped; buffer = b' } ≡ runBytes p limit b m
+unfolding runBytes
 reports p m limit b o b' s ca me r =
-    let l : length (take (o .dumped) b') ≡ o .dumped = length-take-le _ _ (r .filled) in
-    let w : take (o .dumped) b' ++ drop (o .dumped) b ≡ b' = rw (← (r .rest-kept)) (take-append-drop (o .dumped) b') in
-    let z : 0 + o .dumped ≡ o .dumped = omega arith in
-    let fits : 0 + length (take (o .dumped) b') ≤ length b = omega (arith, r .filled, r .long) in
-    let q : sets b 0 (take (o .dumped) b') ≡ b' = sets-eq (take (o .dumped) b') b 0 fits ∙ rw (l, z) w in
-    rw (← (r .is)) (rw (l, q) refl)
+    let long' = length-numbers-in b' in
+    let l : length (take (o .dumped) (numbersIn b')) ≡ o .dumped = length-take-le _ _ (omega (arith, r .filled)) in
+    rw (← (r .is)) (rw (l, ← (r .written)) refl)

@@ -1,12 +1,16 @@
 -- What follows each answer of a step. Assumes nothing.
-use Prim.Native.Nat.{ℕ, _≤_, _<_, _-_, _+_}
+use Prim.Native.Nat.{ℕ, _≤_, _<_, _-_, _+_, _*_, _/_}
 use mathlib.Core.Path.{_≡_, refl, _∙_, sym, ap}
 use mathlib.Core.Bool.{true, false, _&&_}
 use mathlib.Core.List.{List, [], _∷_, _++_}
 use native.Mathlib.Omega.{arith}
 use lib.Dec.{eqb}
-use lib.ListN.{length, set, take, length-set}
-use lib.Seq.{drop-set-lt}
+use lib.ListN.{length, take, drop}
+use lib.Seq.{sets}
+use Rattle.word.specs.Words.{eightOf}
+use Rattle.tables.specs.Tables.{numbersIn}
+use Rattle.tables.proofs.Bytes.{eight-long}
+use Rattle.tables.proofs.Parts.{lent-part}
 use borrow.Author.Tests.{eq-eqb, ne-eqb}
 use Rattle.machine.specs.declared.Machine.{Machine}
 use Rattle.machine.specs.declared.Ending.the-variants.{Halted, Number}
@@ -21,7 +25,7 @@ use Rattle.step.specs.declared.Tried.{Tried}
 use Rattle.run.specs.declared.progress.Turn.{Turn}
 use Rattle.run.specs.declared.progress.Turn.the-variants.{Go, End}
 use Rattle.run.specs.Turns.{more, turned, Fills, Follows, FollowsTry, ending}
-use Rattle.run.proofs.Courses.{more-next, more-dump, more-ended, more-last, took}
+use Rattle.run.proofs.Courses.{more-next, more-dump, more-ended, more-last, took, cell-written}
 
 -- the answer is d
 pub for-answer : {a d : Executed} {c : Core} {f left n : ℕ} {b b' : List ℕ} {r : Turn} → a ≡ d → Follows d c f left n b b' r → Follows a c f left n b b' r
@@ -57,16 +61,29 @@ module _ (c : Core) (f : ℕ) (s ca me : List ℕ) (rest : ℕ → Machine → C
   unfolding turn isIll
   is-ill = ap (turn (whole c f s ca me false) rest room ill) (before-ill (whole c f s ca me false) left room ill refl l refl)
 
--- nothing is dumped
-none : (n : ℕ) (b : List ℕ) → n ≤ length b → Fills n b n b
-none n b h = record { filled = h; long = refl; rest-kept = refl; more-filled = omega arith }
+-- the rest behind n cells was lent, and came back as ys: with the cell x at its front
+pub lent-cell : (b ys : List ℕ) (n x : ℕ) → n < length b / 8 → ys ≡ sets (take (length b - n * 8) (drop (n * 8) b)) 0 (eightOf x)
+    → take (n * 8) b ++ (ys ++ drop (length b - n * 8) (drop (n * 8) b)) ≡ sets b (n * 8) (eightOf x)
+unfolding eightOf
+lent-cell b ys n x h q = lent-part b ys (eightOf x) (n * 8) (length b) (omega arith) (omega arith) q
 
-module _ (c : Core) (f left n : ℕ) (b : List ℕ) (l : 0 < left) (h : n ≤ length b) where
+-- too few bytes for a cell behind n cells, and enough
+pub no-slot : (b : List ℕ) (n : ℕ) → n * 8 ≤ length b → length b - n * 8 < 8 → length b / 8 ≤ n
+no-slot b n h l = omega arith
+
+pub a-slot : (b : List ℕ) (n : ℕ) → n * 8 ≤ length b → 8 ≤ length b - n * 8 → n < length b / 8
+a-slot b n h l = omega arith
+
+-- nothing is dumped
+none : (n : ℕ) (b : List ℕ) → n * 8 ≤ length b → Fills n b n b
+none n b h = record { filled = h; long = refl; written = λ b₀ e. e }
+
+module _ (c : Core) (f left n : ℕ) (b : List ℕ) (l : 0 < left) (h : n * 8 ≤ length b) where
   pub after-next : (on : Core) → Inside on → Follows (Next on) c f left n b b (Go on f n)
   after-next on i =
       record {
         followed = (
-          λ s ca me s' ca' me' rest k u. ap (more k (take n b)) (succeeded c f s ca me rest left (length b - n) l (whole on f s' ca' me' false)) ∙ more-next k (take n b) _,
+          λ s ca me s' ca' me' rest k u. ap (more k (take n (numbersIn b))) (succeeded c f s ca me rest left (length b / 8 - n) l (whole on f s' ca' me' false)) ∙ more-next k (take n (numbersIn b)) _,
           i,
           none n b h,
         );
@@ -76,37 +93,36 @@ module _ (c : Core) (f left n : ℕ) (b : List ℕ) (l : 0 < left) (h : n ≤ le
   after-compared on g i =
       record {
         followed = (
-          λ s ca me s' ca' me' rest k u. ap (more k (take n b)) (succeeded c f s ca me rest left (length b - n) l (whole on g s' ca' me' false)) ∙ more-next k (take n b) _,
+          λ s ca me s' ca' me' rest k u. ap (more k (take n (numbersIn b))) (succeeded c f s ca me rest left (length b / 8 - n) l (whole on g s' ca' me' false)) ∙ more-next k (take n (numbersIn b)) _,
           i,
           none n b h,
         );
       }
 
-  pub after-dump : n < length b → (on : Core) (x : ℕ) → Inside on → Follows (Dump on x) c f left n b (set b n x) (Go on f (n + 1))
+  pub after-dump : n < length b / 8 → (on : Core) (x : ℕ) → Inside on → Follows (Dump on x) c f left n b (sets b (n * 8) (eightOf x)) (Go on f (n + 1))
   after-dump g on x i =
-      let up : n < n + 1 = omega arith in
-      let z : length b - n ≡ 0 → ⊥ = λ e. omega arith in
-      let e : length b - n - 1 ≡ length b - (n + 1) = omega arith in
+      let z : length b / 8 - n ≡ 0 → ⊥ = λ e. omega arith in
+      let e : length b / 8 - n - 1 ≡ length b / 8 - (n + 1) = omega arith in
       record {
         followed = (
           λ s ca me s' ca' me' rest k u.
-              ap (more k (take n b)) (dumped c f s ca me rest left (length b - n) l x (whole on f s' ca' me' false) z)
-              ∙ more-dump k x (take n b) (rest (length b - n - 1) (whole on f s' ca' me' false))
-              ∙ ap (λ (r : ℕ). more (k + 1) (take n b ++ (x ∷ [])) (rest r (whole on f s' ca' me' false))) e
-              ∙ ap (λ (out : List ℕ). more (k + 1) out (rest (length b - (n + 1)) (whole on f s' ca' me' false))) (sym (took b n x g)),
+              ap (more k (take n (numbersIn b))) (dumped c f s ca me rest left (length b / 8 - n) l x (whole on f s' ca' me' false) z)
+              ∙ more-dump k x (take n (numbersIn b)) (rest (length b / 8 - n - 1) (whole on f s' ca' me' false))
+              ∙ ap (λ (r : ℕ). more (k + 1) (take n (numbersIn b) ++ (x ∷ [])) (rest r (whole on f s' ca' me' false))) e
+              ∙ ap (λ (out : List ℕ). more (k + 1) out (rest (length b / 8 - (n + 1)) (whole on f s' ca' me' false))) (sym (took b n x g)),
           i,
-          record { filled = omega arith; long = simp length-set; rest-kept = drop-set-lt _ _ _ _ up; more-filled = omega arith },
+          record { filled = omega arith; long = eight-long b _ x; written = λ b₀ e. cell-written b b₀ n x g e },
         );
       }
 
-  pub after-full : length b ≤ n → (on : Core) (x : ℕ) → Follows (Dump on x) c f left n b b (End (ending c f left n 2 33))
+  pub after-full : length b / 8 ≤ n → (on : Core) (x : ℕ) → Follows (Dump on x) c f left n b b (End (ending c f left n 2 33))
   after-full g on x =
-      let z : length b - n ≡ 0 = omega arith in
+      let z : length b / 8 - n ≡ 0 = omega arith in
       record {
         followed = (
           λ s ca me s' ca' me' rest k q u.
-              ap (more k (take n b)) (full c f s ca me rest left (length b - n) l x (whole on f s' ca' me' false) z)
-              ∙ more-ended k (left - left) (take n b) (Number 33) (whole c f s ca me false) (omega arith)
+              ap (more k (take n (numbersIn b))) (full c f s ca me rest left (length b / 8 - n) l x (whole on f s' ca' me' false) z)
+              ∙ more-ended k (left - left) (take n (numbersIn b)) (Number 33) (whole c f s ca me false) (omega arith)
               ∙ rw (u .0, u .1, u .2) refl,
           omega arith,
           refl,
@@ -119,9 +135,9 @@ module _ (c : Core) (f left n : ℕ) (b : List ℕ) (l : 0 < left) (h : n ≤ le
       record {
         followed = (
           λ s ca me s' ca' me' rest k q u.
-              ap (more k (take n b)) (succeeded c f s ca me rest left (length b - n) l (whole on f s' ca' me' true))
-              ∙ ap (λ (r : Course). more k (take n b) (after [] r)) (q (length b - n) (whole on f s' ca' me' true) refl)
-              ∙ more-last k (left - (left - 1)) (take n b) Halted (whole on f s' ca' me' true) (omega arith),
+              ap (more k (take n (numbersIn b))) (succeeded c f s ca me rest left (length b / 8 - n) l (whole on f s' ca' me' true))
+              ∙ ap (λ (r : Course). more k (take n (numbersIn b)) (after [] r)) (q (length b / 8 - n) (whole on f s' ca' me' true) refl)
+              ∙ more-last k (left - (left - 1)) (take n (numbersIn b)) Halted (whole on f s' ca' me' true) (omega arith),
           omega arith,
           refl,
           none n b h,
@@ -133,8 +149,8 @@ module _ (c : Core) (f left n : ℕ) (b : List ℕ) (l : 0 < left) (h : n ≤ le
       record {
         followed = (
           λ s ca me s' ca' me' rest k q u.
-              ap (more k (take n b)) (trapped c f s ca me rest left (length b - n) l t (whole on f s' ca' me' false))
-              ∙ more-last k (left - (left - 1)) (take n b) (Number t) (whole on f s' ca' me' false) (omega arith),
+              ap (more k (take n (numbersIn b))) (trapped c f s ca me rest left (length b / 8 - n) l t (whole on f s' ca' me' false))
+              ∙ more-last k (left - (left - 1)) (take n (numbersIn b)) (Number t) (whole on f s' ca' me' false) (omega arith),
           omega arith,
           refl,
           none n b h,
@@ -146,8 +162,8 @@ module _ (c : Core) (f left n : ℕ) (b : List ℕ) (l : 0 < left) (h : n ≤ le
       record {
         followed = (
           λ s ca me s' ca' me' rest k q u.
-              ap (more k (take n b)) (is-ill c f s ca me rest left (length b - n) l)
-              ∙ more-ended k (left - left) (take n b) (Number 34) (whole c f s ca me false) (omega arith)
+              ap (more k (take n (numbersIn b))) (is-ill c f s ca me rest left (length b / 8 - n) l)
+              ∙ more-ended k (left - left) (take n (numbersIn b)) (Number 34) (whole c f s ca me false) (omega arith)
               ∙ rw (u .0, u .1, u .2) refl,
           omega arith,
           refl,

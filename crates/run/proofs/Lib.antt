@@ -3,3 +3,4 @@ pub mod Following
 pub mod Running
 pub mod Loop
 pub mod Edges
+pub mod Cells

@@ -1,5 +1,5 @@
 -- The loop of `steps`: what it keeps, and how it ends. Assumes nothing.
-use Prim.Native.Nat.{ℕ, _≤_, _<_, _-_, _+_, _^_}
+use Prim.Native.Nat.{ℕ, _*_, _≤_, _<_, _-_, _+_, _^_}
 use mathlib.Core.Path.{_≡_, refl, _∙_, sym, ap}
 use mathlib.Core.Bool.{Bool, true, false, cond}
 use mathlib.Core.List.{List}
@@ -38,7 +38,7 @@ pub record Loops (image xs : List ℕ) (count : ℕ) (c₀ : Core) (f₀ left₀
     (c : Core) (f left n found : ℕ) (b keys targets s ca me : List ℕ) : Type 0 where
   pub fits : count + 3 < 2 ^ 64
   pub small : Inside c
-  pub filled : n ≤ length b
+  pub filled : n * 8 ≤ length b
   pub long : length b ≡ length b₀
   pub sized : Sized keys targets
   pub listed : Listed xs keys targets
@@ -79,7 +79,7 @@ module _ {c : Core} {f left n : ℕ} {b b' : List ℕ} where
   end-long (Asks start len) q = ap length (q .followed .1)
 
 module _ {image xs : List ℕ} {count : ℕ} where
-  pub loop-starts : (c : Core) (f left n asked : ℕ) (b keys targets s ca me : List ℕ) → count + 3 < 2 ^ 64 → Inside c → n ≤ length b → Sized keys targets →
+  pub loop-starts : (c : Core) (f left n asked : ℕ) (b keys targets s ca me : List ℕ) → count + 3 < 2 ^ 64 → Inside c → n * 8 ≤ length b → Sized keys targets →
       Listed xs keys targets →
       Loops image xs count c f left n asked b keys targets s ca me c f left n asked b keys targets s ca me
   loop-starts c f left n asked b keys targets s ca me fits small filled sized listed =

@@ -1,5 +1,5 @@
 -- The loop of a run: what it keeps, and each turn. Assumes nothing.
-use Prim.Native.Nat.{ℕ, _<_, _-_, _+_}
+use Prim.Native.Nat.{ℕ, _<_, _-_, _+_, _/_}
 use mathlib.Core.Path.{_≡_, refl, _∙_, sym, ap}
 use mathlib.Core.Bool.{true, false}
 use mathlib.Core.List.{List}
@@ -10,6 +10,7 @@ use Rattle.machine.specs.declared.Ending.the-variants.{Limit}
 use Rattle.machine.specs.Lookup.{Program}
 use Rattle.machine.specs.Step.{step}
 use Rattle.machine.specs.Run.{Course, course}
+use Rattle.tables.specs.Tables.{numbersIn}
 use Rattle.step_core.specs.declared.Core.{Core}
 use Rattle.step_core.specs.declared.Executed.{Executed}
 use Rattle.step_core.specs.Parts.{whole, means}
@@ -22,7 +23,7 @@ use Rattle.run.specs.declared.progress.Progress.{Progress}
 use Rattle.run.specs.declared.progress.Turn.the-variants.{Go, End}
 use Rattle.run.specs.Turns.{more, closed, turned, Follows, ending}
 use Rattle.run.specs.Runs.{Running, Reaches, Stands, Ready}
-use Rattle.run.proofs.Courses.{more-plus, more-ended, spends, resting, past}
+use Rattle.run.proofs.Courses.{more-plus, more-ended, spends, resting}
 
 module _ {p : Program} {xs b₀ : List ℕ} {limit : ℕ} {run : Course} {c : Core} {f left n : ℕ} {b keys targets s ca me : List ℕ}
     (inv : Running p xs b₀ limit run c f left n b keys targets s ca me) where
@@ -32,11 +33,11 @@ module _ {p : Program} {xs b₀ : List ℕ} {limit : ℕ} {run : Course} {c : Co
       let e : limit - 0 ≡ limit - left + 0 = omega arith in
       record {
         is = ap (λ (k : ℕ). closed k (ending c f 0 n 1 0) b s ca me) e
-            ∙ sym (more-ended (limit - left) 0 (take n b) Limit (whole c f s ca me false) refl)
-            ∙ ap (more (limit - left) (take n b)) (sym (spends p left (length b₀ - n) (whole c f s ca me false) refl z))
+            ∙ sym (more-ended (limit - left) 0 (take n (numbersIn b)) Limit (whole c f s ca me false) refl)
+            ∙ ap (more (limit - left) (take n (numbersIn b))) (sym (spends p left (length b₀ / 8 - n) (whole c f s ca me false) refl z))
             ∙ inv .is;
         long = inv .long;
-        rest-kept = inv .rest-kept;
+        written = inv .written;
         fewer = omega arith;
         filled = inv .filled;
       }
@@ -47,25 +48,25 @@ module _ {p : Program} {xs b₀ : List ℕ} {limit : ℕ} {run : Course} {c : Co
   known-on {r} {s'} {ca'} {me'} q =
       let e : limit - left + (left - r .left) ≡ limit - r .left = omega (arith, inv .fewer, q .fewer) in
       record {
-        is = ap (λ (k : ℕ). more k (take n b) (course p (r .left) (length b₀ - n) (whole (r .core) (r .flags) s' ca' me' false))) (sym e)
-            ∙ sym (more-plus (limit - left) (left - r .left) (take n b) (course p (r .left) (length b₀ - n) (whole (r .core) (r .flags) s' ca' me' false)))
-            ∙ ap (more (limit - left) (take n b)) (q .leads p (inv .over) (inv .known) (length b₀ - n))
+        is = ap (λ (k : ℕ). more k (take n (numbersIn b)) (course p (r .left) (length b₀ / 8 - n) (whole (r .core) (r .flags) s' ca' me' false))) (sym e)
+            ∙ sym (more-plus (limit - left) (left - r .left) (take n (numbersIn b)) (course p (r .left) (length b₀ / 8 - n) (whole (r .core) (r .flags) s' ca' me' false)))
+            ∙ ap (more (limit - left) (take n (numbersIn b))) (q .leads p (inv .over) (inv .known) (length b₀ / 8 - n))
             ∙ inv .is;
         small = q .small;
         fewer = omega (arith, inv .fewer, q .fewer);
         filled = inv .filled;
         long = inv .long;
-        rest-kept = inv .rest-kept;
+        written = inv .written;
         over = inv .over;
         known = inv .known;
         sized = inv .sized;
       }
 
   module _ (l : 0 < left) {a : Executed} {s' ca' me' : List ℕ} (made : Made (step p (whole c f s ca me false)) f s ca me a s' ca' me') where
-    stepped : more (limit - left) (take n b) (turned (whole c f s ca me false) (course p (left - 1)) left (length b - n) (means f a s' ca' me')) ≡ run
+    stepped : more (limit - left) (take n (numbersIn b)) (turned (whole c f s ca me false) (course p (left - 1)) left (length b / 8 - n) (means f a s' ca' me')) ≡ run
     stepped =
         rw (inv .long, made .does)
-        (ap (more (limit - left) (take n b)) (sym (course-turn p left (length b₀ - n) (whole c f s ca me false) l)) ∙ inv .is)
+        (ap (more (limit - left) (take n (numbersIn b))) (sym (course-turn p left (length b₀ / 8 - n) (whole c f s ca me false) l)) ∙ inv .is)
 
     -- a step, and on
     pub went : {b' keys' targets' : List ℕ} → Sized keys' targets' → (Known p xs keys targets → Known p xs keys' targets') → {on : Core} {g n' : ℕ} →
@@ -79,7 +80,7 @@ module _ {p : Program} {xs b₀ : List ℕ} {limit : ℕ} {run : Course} {c : Co
           fewer = omega (arith, inv .fewer);
           filled = omega (arith, fills .filled, fills .long);
           long = fills .long ∙ inv .long;
-          rest-kept = fills .rest-kept ∙ past b b₀ n n' (fills .more-filled) (inv .rest-kept);
+          written = fills .written b₀ (inv .written);
           over = inv .over;
           known = kn (inv .known);
           sized = sz;
@@ -95,7 +96,7 @@ module _ {p : Program} {xs b₀ : List ℕ} {limit : ℕ} {run : Course} {c : Co
               ∙ sym (q .followed .0 s ca me s' ca' me' (course p (left - 1)) (limit - left) (resting p (left - 1)) (made .kept))
               ∙ stepped;
           long = fills .long ∙ inv .long;
-          rest-kept = fills .rest-kept ∙ past b b₀ n (o .dumped) (fills .more-filled) (inv .rest-kept);
+          written = fills .written b₀ (inv .written);
           fewer = omega (arith, inv .fewer, q .followed .1);
           filled = omega (arith, fills .filled, fills .long);
         }

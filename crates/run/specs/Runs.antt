@@ -1,17 +1,18 @@
 -- How far a run has come, whatever the labels are.
-use Prim.Native.Nat.{ℕ, _+_, _-_, _*_, _≤_, _<_, _^_}
+use Prim.Native.Nat.{ℕ, _+_, _-_, _*_, _/_, _≤_, _<_, _^_}
 use mathlib.Core.Path.{_≡_}
 use mathlib.Core.Bool.{Bool, true, false, cond}
 use mathlib.Core.List.{List}
 use lib.Dec.{eqb}
-use lib.ListN.{length, take, drop, replicate}
+use lib.ListN.{length, take, replicate}
+use lib.Seq.{sets}
 use Rattle.inst.specs.Records.{nameIn}
 use Rattle.machine.specs.declared.Machine.{Machine}
 use Rattle.machine.specs.declared.Label.{Label}
 use Rattle.machine.specs.Lookup.{Program}
 use Rattle.machine.specs.Step.{wellState}
-use Rattle.machine.specs.Run.{Course, Result, course, run}
-use Rattle.tables.specs.Tables.{instsOf, program}
+use Rattle.machine.specs.Run.{Course, Result, course}
+use Rattle.tables.specs.Tables.{numbersIn, bytesOf, instsOf, program}
 use Rattle.step_core.specs.declared.Core.{Core}
 use Rattle.step_core.specs.Parts.{whole, Inside}
 use Rattle.lookup.specs.Walks.{lent, Finds}
@@ -19,17 +20,17 @@ use Rattle.known.specs.Known.{knownLimit, unknown, Known, Sized, Listed, Over}
 use Rattle.step.specs.Steps.{NamedAt}
 use Rattle.run.specs.declared.progress.Progress.{Progress}
 use Rattle.run.specs.declared.Ran.{Ran}
-use Rattle.run.specs.Turns.{more, closed, endingOf}
+use Rattle.run.specs.Turns.{more, closed, endingOf, Written}
 
 -- Of a run of p over the table xs with this limit and buffer: the limit less `left` steps led to the machine of c, f and the arrays, with n cells of
 -- the buffer filled, and what is known of the instructions is right
 pub record Running (p : Program) (xs b₀ : List ℕ) (limit : ℕ) (run : Course) (c : Core) (f left n : ℕ) (b keys targets s ca me : List ℕ) : Type 0 where
-  pub is : more (limit - left) (take n b) (course p left (length b₀ - n) (whole c f s ca me false)) ≡ run
+  pub is : more (limit - left) (take n (numbersIn b)) (course p left (length b₀ / 8 - n) (whole c f s ca me false)) ≡ run
   pub small : Inside c
   pub fewer : left ≤ limit
-  pub filled : n ≤ length b
+  pub filled : n * 8 ≤ length b
   pub long : length b ≡ length b₀
-  pub rest-kept : drop n b ≡ drop n b₀
+  pub written : Written n b₀ b
   pub over : Over p xs
   pub known : Known p xs keys targets
   pub sized : Sized keys targets
@@ -38,9 +39,9 @@ pub record Running (p : Program) (xs b₀ : List ℕ) (limit : ℕ) (run : Cours
 pub record Reaches (run : Course) (limit : ℕ) (b₀ : List ℕ) (o : Progress) (b s ca me : List ℕ) : Type 0 where
   pub is : closed (limit - o .left) o b s ca me ≡ run
   pub long : length b ≡ length b₀
-  pub rest-kept : drop (o .dumped) b ≡ drop (o .dumped) b₀
+  pub written : Written (o .dumped) b₀ b
   pub fewer : o .left ≤ limit
-  pub filled : o .dumped ≤ length b
+  pub filled : o .dumped * 8 ≤ length b
 
 -- The run goes on, and a name that it asks for is that of the instruction at the pointer; or it is over
 pub record Stands (p : Program) (xs b₀ : List ℕ) (limit : ℕ) (run : Course) (o : Progress) (b keys targets s ca me : List ℕ) : Type 0 where
@@ -54,7 +55,7 @@ weight image o = cond (o .on) (o .left + cond (nameIn image (o .start) (o .len))
 
 -- what `begin` gives for arrays that know nothing yet
 pub record Begins (p : Program) (xs b : List ℕ) (limit : ℕ) (c : Core) (f : ℕ) (h : Bool) (s ca me : List ℕ) (r : Progress) : Type 0 where
-  pub stands : Stands p xs b limit (course p limit (length b) (whole c f s ca me h)) r b (replicate knownLimit unknown) (replicate knownLimit 0) s ca me
+  pub stands : Stands p xs b limit (course p limit (length b / 8) (whole c f s ca me h)) r b (replicate knownLimit unknown) (replicate knownLimit 0) s ca me
 
 abbrev pub Begun : List ℕ → ℕ → Core → ℕ → Bool → ℕ → Progress → Type 0
 Begun xs count c f h limit r =
@@ -63,8 +64,8 @@ Begun xs count c f h limit r =
 -- what `steps` requires: it doesn't depend on the labels
 pub record Ready (xs : List ℕ) (count : ℕ) (o : Progress) (b keys targets : List ℕ) : Type 0 where
   pub small : Inside (o .core)
-  pub inside : count * 4 ≤ length xs
-  pub filled : o .dumped ≤ length b
+  pub inside : count * 32 ≤ length xs
+  pub filled : o .dumped * 8 ≤ length b
   pub sized : Sized keys targets
   pub listed : Listed xs keys targets
 
@@ -84,13 +85,19 @@ Advances image xs count o found b keys targets s ca me r b' keys' targets' s' ca
 
 -- 34 before the first step, but for the pointer and the record: no step changes it
 pub record Fit (xs : List ℕ) (count : ℕ) (c : Core) (r : Bool) : Type 0 where
-  pub well : r ≡ false → Inside c × (count * 4 ≤ length xs)
+  pub well : r ≡ false → Inside c × (count * 32 ≤ length xs)
   pub unwell : r ≡ true → (image : List ℕ) (labels : List Label) (f : ℕ) (s ca me : List ℕ) →
       wellState (lent image (instsOf xs) labels count) (whole c f s ca me false) ≡ false
 
+-- Document 01's run over a lent buffer of bytes, eight a cell: the cells fill it from its front, and the rest of it, bytes left over at its end too, is unchanged
+unfoldable pub runBytes : Program → ℕ → List ℕ → Machine → Result
+runBytes p limit dumps m =
+    let r = course p limit (length dumps / 8) m in
+    record { machine = r .machine; ending = r .ending; steps = r .steps; dumped = length (r .cells); buffer = sets dumps 0 (bytesOf (r .cells)) }
+
 -- of a run with this limit over lent tables: the outcome r with the arrays and the buffer that are left is the definition's result from m
 pub record ExecuteParts (image insts labels : List ℕ) (count : ℕ) (m : Machine) (limit : ℕ) (dumps : List ℕ) (r : Progress) (s ca me dumps′ : List ℕ) : Type 0 where
-  pub gives : record { machine = whole (r .core) (r .flags) s ca me (eqb (r .ending) 0); ending = endingOf (r .ending) (r .number); steps = limit - r .left; dumped = r .dumped; buffer = dumps′ } ≡ run (program image insts labels count) limit dumps m
+  pub gives : record { machine = whole (r .core) (r .flags) s ca me (eqb (r .ending) 0); ending = endingOf (r .ending) (r .number); steps = limit - r .left; dumped = r .dumped; buffer = dumps′ } ≡ runBytes (program image insts labels count) limit dumps m
   pub fewer : r .left ≤ limit
   pub long : length dumps′ ≡ length dumps
 
@@ -100,4 +107,4 @@ answer r b = record { machine = r .machine; ending = r .ending; steps = r .steps
 
 -- the promise: what a run over lent tables answers, and the buffer that it leaves
 abbrev pub ExecuteProgram : (image insts labels : List ℕ) → ℕ → Machine → ℕ → List ℕ → Ran → List ℕ → Type 0
-ExecuteProgram image insts labels count m limit dumps r dumps′ = answer r dumps′ ≡ run (program image insts labels count) limit dumps m
+ExecuteProgram image insts labels count m limit dumps r dumps′ = answer r dumps′ ≡ runBytes (program image insts labels count) limit dumps m

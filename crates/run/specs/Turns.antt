@@ -1,15 +1,17 @@
 -- What follows one step of a run.
-use Prim.Native.Nat.{ℕ, _+_, _-_, _≤_}
+use Prim.Native.Nat.{ℕ, _+_, _-_, _*_, _/_, _≤_}
 use mathlib.Core.Path.{_≡_}
 use mathlib.Core.Bool.{true, false, cond}
 use mathlib.Core.List.{List, _++_}
 use lib.Dec.{eqb}
-use lib.ListN.{length, take, drop}
+use lib.ListN.{length, take}
+use lib.Seq.{sets}
 use Rattle.machine.specs.declared.Machine.{Machine}
 use Rattle.machine.specs.declared.Ending.{Ending}
 use Rattle.machine.specs.declared.Ending.the-variants.{Halted, Limit, Number}
 use Rattle.machine.specs.Step.{Stepped}
 use Rattle.machine.specs.Run.{Course, ended, before, turn}
+use Rattle.tables.specs.Tables.{numbersIn, bytesOf}
 use Rattle.step_core.specs.declared.Core.{Core}
 use Rattle.step_core.specs.declared.Executed.{Executed}
 use Rattle.step_core.specs.Parts.{whole, means, Inside, Untaken}
@@ -30,7 +32,7 @@ endingOf kind n = cond (eqb kind 0) Halted (cond (eqb kind 1) Limit (Number n))
 -- the course of a run that is over, after this many steps
 abbrev pub closed : ℕ → Progress → List ℕ → List ℕ → List ℕ → List ℕ → Course
 closed steps o b s ca me =
-    record { machine = whole (o .core) (o .flags) s ca me (eqb (o .ending) 0); ending = endingOf (o .ending) (o .number); steps = steps; cells = take (o .dumped) b }
+    record { machine = whole (o .core) (o .flags) s ca me (eqb (o .ending) 0); ending = endingOf (o .ending) (o .number); steps = steps; cells = take (o .dumped) (numbersIn b) }
 
 -- with so many steps and so much room left, the turn that m takes by the step st
 abbrev pub turned : Machine → (ℕ → Machine → Course) → ℕ → ℕ → Stepped → Course
@@ -40,23 +42,26 @@ turned m rest left room st = turn m rest room st (before m left room st)
 abbrev pub Rests : (ℕ → Machine → Course) → Type 0
 Rests rest = (room : ℕ) (m : Machine) → m .halted ≡ true → rest room m ≡ ended Halted m
 
+-- b is the buffer b₀ with its first n cells written
+abbrev pub Written : ℕ → List ℕ → List ℕ → Type 0
+Written n b₀ b = b ≡ sets b₀ 0 (bytesOf (take n (numbersIn b)))
+
 -- the buffer b with n cells filled became b' with n'
 pub record Fills (n : ℕ) (b : List ℕ) (n' : ℕ) (b' : List ℕ) : Type 0 where
-  pub filled : n' ≤ length b
+  pub filled : n' * 8 ≤ length b
   pub long : length b' ≡ length b
-  pub rest-kept : drop n' b' ≡ drop n' b
-  pub more-filled : n ≤ n'
+  pub written : (b₀ : List ℕ) → Written n b₀ b → Written n' b₀ b'
 
 -- behind a step from c and f whose answer is a, with n cells of the buffer b filled: on with `rest`, or the end
 abbrev pub Followed : Executed → Core → ℕ → ℕ → ℕ → List ℕ → List ℕ → Turn → Type 0
 Followed a c f left n b b' (Go on g n') =
     ((s ca me s' ca' me' : List ℕ) (rest : ℕ → Machine → Course) (k : ℕ) → Untaken a ((s' ≡ s) × (ca' ≡ ca) × (me' ≡ me)) →
-    more k (take n b) (turned (whole c f s ca me false) rest left (length b - n) (means f a s' ca' me')) ≡ more (k + 1) (take n' b') (rest (length b - n') (whole on g s' ca' me' false)))
+    more k (take n (numbersIn b)) (turned (whole c f s ca me false) rest left (length b / 8 - n) (means f a s' ca' me')) ≡ more (k + 1) (take n' (numbersIn b')) (rest (length b / 8 - n') (whole on g s' ca' me' false)))
     × Inside on
     × Fills n b n' b'
 Followed a c f left n b b' (End o) =
     ((s ca me s' ca' me' : List ℕ) (rest : ℕ → Machine → Course) (k : ℕ) → Rests rest → Untaken a ((s' ≡ s) × (ca' ≡ ca) × (me' ≡ me)) →
-    more k (take n b) (turned (whole c f s ca me false) rest left (length b - n) (means f a s' ca' me')) ≡ closed (k + (left - o .left)) o b' s' ca' me')
+    more k (take n (numbersIn b)) (turned (whole c f s ca me false) rest left (length b / 8 - n) (means f a s' ca' me')) ≡ closed (k + (left - o .left)) o b' s' ca' me')
     × (o .left ≤ left)
     × (o .on ≡ false)
     × Fills n b (o .dumped) b'

@@ -30,6 +30,7 @@ use machine::STACK_LIMIT;
 use quick::run_known;
 use step::step;
 use step_core::Core;
+use tables::RECORD;
 
 // What a run returns.
 pub struct Ran {
@@ -43,7 +44,7 @@ pub struct Ran {
 const NO_NAME: u64 = 0xFFFFFFFFFFFFFFFF;
 
 // 34 before the first step, but for the pointer and the record: no step changes it.
-fn is_ill(insts: &[u64], count: usize, core: Core) -> bool
+fn is_ill(insts: &[u8], count: usize, core: Core) -> bool
     ensures { λ r. ⌜ Fit (now (insts .entry)) count core r ⌝ }
 {
     if STACK_LIMIT < core.height {
@@ -52,12 +53,12 @@ fn is_ill(insts: &[u64], count: usize, core: Core) -> bool
     if CALL_LIMIT < core.call_height {
         return true;
     }
-    insts.len() / 4 < count
+    insts.len() / RECORD < count
 }
 
 // The endings before the first step, in order; or the run goes on. It asks for nothing yet.
 pub fn begin(
-    insts: &[u64],
+    insts: &[u8],
     count: usize,
     core: Core,
     flags: u8,
@@ -85,7 +86,7 @@ pub fn begin(
 // - what crate known says of keys and targets.
 pub fn steps(
     image: &[u8],
-    insts: &[u64],
+    insts: &[u8],
     count: usize,
     from: Progress,
     asked: u64,
@@ -94,7 +95,7 @@ pub fn steps(
     memory: &mut [u8; MEMORY_SIZE],
     keys: &mut [u8; KNOWN_LIMIT],
     targets: &mut [u16; KNOWN_LIMIT],
-    dumps: &mut [u64],
+    dumps: &mut [u8],
 ) -> Progress
     requires { ⌜ Ready (now insts) count from (now dumps) (now keys) (now targets) ⌝ }
     ensures { λ r. ⌜ Advances (now (image .entry)) (now (insts .entry)) count from asked (now (dumps .entry)) (now (keys .entry)) (now (targets .entry)) (now (stack .entry)) (now (calls .entry)) (now (memory .entry)) r (now (dumps .exit)) (now (keys .exit)) (now (targets .exit)) (now (stack .exit)) (now (calls .exit)) (now (memory .exit)) ⌝ }
@@ -195,8 +196,8 @@ pub fn pack(
 // of them (15 to 20 ns a step).
 pub fn execute_parts(
     image: &[u8],
-    insts: &[u64],
-    labels: &[u64],
+    insts: &[u8],
+    labels: &[u8],
     count: usize,
     core: Core,
     flags: u8,
@@ -205,7 +206,7 @@ pub fn execute_parts(
     stack: &mut [u64; STACK_LIMIT],
     calls: &mut [u64; CALL_LIMIT],
     memory: &mut [u8; MEMORY_SIZE],
-    dumps: &mut [u64],
+    dumps: &mut [u8],
 ) -> Progress
     ensures { λ r. ⌜ ExecuteParts (now (image .entry)) (now (insts .entry)) (now (labels .entry)) count (whole core flags (now (stack .entry)) (now (calls .entry)) (now (memory .entry)) halted) limit (now (dumps .entry)) r (now (stack .exit)) (now (calls .exit)) (now (memory .exit)) (now (dumps .exit)) ⌝ }
 {
@@ -234,12 +235,12 @@ pub fn execute_parts(
 // The same over the machine by value.
 pub fn execute_program(
     image: &[u8],
-    insts: &[u64],
-    labels: &[u64],
+    insts: &[u8],
+    labels: &[u8],
     count: usize,
     m: Machine,
     limit: u64,
-    dumps: &mut [u64],
+    dumps: &mut [u8],
 ) -> Ran
     ensures { λ r. ⌜ ExecuteProgram (now (image .entry)) (now (insts .entry)) (now (labels .entry)) count m limit (now (dumps .entry)) r (now (dumps .exit)) ⌝ }
 {

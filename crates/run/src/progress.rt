@@ -1,7 +1,9 @@
 // How far a run has come, and what follows one step of it.
 ghost use mathlib.Core.Path.{_≡_};
-ghost use Prim.Native.Nat.{_≤_, _<_};
-ghost use lib.ListN.{length, set};
+ghost use Prim.Native.Nat.{_*_, _≤_, _<_};
+ghost use lib.ListN.{length};
+ghost use lib.Seq.{sets};
+ghost use Rattle.word.specs.Words.{eightOf};
 ghost use Rattle.step_core.specs.Parts.{Small};
 ghost use Rattle.step.specs.Steps.{SmallTried};
 ghost use Rattle.run.specs.Turns as turns;
@@ -9,6 +11,8 @@ ghost use Rattle.run.specs.Turns.{Follows, FollowsTry};
 use step::Tried;
 use step_core::Core;
 use step_core::Executed;
+use tables::NUMBER as CELL;
+use tables::put_number;
 
 // What changes beside the arrays: the machine's numbers, the steps that are left and the cells dumped so far. The run
 // goes on, and asks for the lookup of the name at `start`; or it is over. The ending is in numbers, so that a Progress is
@@ -82,11 +86,12 @@ fn anew(core: Core) -> Core
     }
 }
 
-fn dump_cell(room: &mut [u64], cell: u64)
-    requires { ⌜ 0 < length (now room) ⌝ }
-    ensures { λ r. ⌜ now (room .exit) ≡ set (now (room .entry)) 0 cell ⌝ }
+// A cell into the unfilled rest of the buffer, at its front.
+fn dump_cell(room: &mut [u8], cell: u64)
+    requires { ⌜ 8 ≤ length (now room) ⌝ }
+    ensures { λ _. ⌜ now (room .exit) ≡ sets (now (room .entry)) 0 (eightOf cell) ⌝ }
 {
-    room[0] = cell;
+    put_number(room, 0, cell);
 }
 
 // What an executed step comes to for a run that was at core with so many steps left and n cells dumped. 34 and 33 count
@@ -97,9 +102,9 @@ fn follow_executed(
     flags: u8,
     left: u64,
     n: usize,
-    dumps: &mut [u64],
+    dumps: &mut [u8],
 ) -> Turn
-    requires { ⌜ (0 < left) × (n ≤ length (now dumps)) × Small answer ⌝ }
+    requires { ⌜ (0 < left) × (n * 8 ≤ length (now dumps)) × Small answer ⌝ }
     ensures { λ r. ⌜ Follows answer core flags left n (now (dumps .entry)) (now (dumps .exit)) r ⌝ }
 {
     let after = left - 1;
@@ -107,10 +112,11 @@ fn follow_executed(
         Executed::Next(next) => Turn::Go(anew(next), flags, n),
         Executed::Compared(next, g) => Turn::Go(anew(next), g, n),
         Executed::Dump(next, cell) => {
-            if dumps.len() <= n {
+            let at = n * CELL;
+            if dumps.len() - at < CELL {
                 Turn::End(ends(core, flags, left, n, NUMBER, 33))
             } else {
-                dump_cell(&mut dumps[n..], cell);
+                dump_cell(&mut dumps[at..], cell);
                 Turn::Go(anew(next), flags, n + 1)
             }
         }
@@ -120,8 +126,8 @@ fn follow_executed(
     }
 }
 
-pub fn follow(tried: Tried, core: Core, flags: u8, left: u64, n: usize, dumps: &mut [u64]) -> Turn
-    requires { ⌜ (0 < left) × (n ≤ length (now dumps)) × SmallTried tried ⌝ }
+pub fn follow(tried: Tried, core: Core, flags: u8, left: u64, n: usize, dumps: &mut [u8]) -> Turn
+    requires { ⌜ (0 < left) × (n * 8 ≤ length (now dumps)) × SmallTried tried ⌝ }
     ensures { λ r. ⌜ FollowsTry tried core flags left n (now (dumps .entry)) (now (dumps .exit)) r ⌝ }
 {
     match tried {

@@ -1,5 +1,5 @@
 -- The runs of an image, printed one behind the other. Assumes nothing.
-use Prim.Native.Nat.{ℕ, suc, _+_, _-_, _≤_, _<_}
+use Prim.Native.Nat.{ℕ, suc, _+_, _-_, _/_, _≤_, _<_}
 use mathlib.Core.Path.{_≡_, refl, ap, _∙_, sym}
 use mathlib.Core.Bool.{Bool, true, false, cond}
 use mathlib.Core.List.{List, [], _++_, append-assoc}
@@ -15,10 +15,21 @@ use Rattle.machine.specs.Change.{callHeight}
 use Rattle.machine.specs.Lookup.{Program}
 use Rattle.machine.specs.Run.{Course, course, Result, reported, run}
 use Rattle.machine.proofs.Histories.{front}
+use Rattle.tables.specs.Tables.{numbersIn, bytesOf}
+use Rattle.tables.proofs.Bytes.{length-numbers-in}
+use Rattle.run.specs.Runs.{runBytes}
 use Rattle.report.specs.Text.{cellLines, endLine, Put}
 use Rattle.report.proofs.Laws.{put-both, lines-append, length-lines, end-line-short}
 use Rattle.session.specs.Session.{isFull, joined, continued, inAll, report, stepsInAll, dumpRoom, textSize}
 use Rattle.session.proofs.Joined.{by-bool, Front, fronts, one-run, buffer-unseen}
+
+-- a buffer of 64 cells, and that a run keeps its length
+pub sixty-four : (b : List ℕ) → length b ≡ 512 → length (numbersIn b) ≡ dumpRoom
+sixty-four b e = let l = length-numbers-in b in omega arith
+
+pub same-bytes : (p : Program) (limit : ℕ) (b : List ℕ) (m : Machine) (x : Result) → x ≡ runBytes p limit b m → length (x .buffer) ≡ length b
+unfolding runBytes
+same-bytes p limit b m x e = ap (λ (y : Result). length (y .buffer)) e ∙ length-sets b 0 (bytesOf (course p limit (length b / 8) m .cells))
 
 -- three runs joined
 continued-joined : (rest : ℕ → Machine → Course) (limit : ℕ) (r s : Course) (b : Bool)

@@ -50,12 +50,12 @@ stepsInAll = 10000
 abbrev pub dumpRoom : ℕ
 dumpRoom = 64
 
--- the tables that it lends: 4,096 and 513 records of four numbers, all 0
+-- the tables that it lends: 4,096 and 513 records of 32 bytes, all 0
 abbrev pub emptyInsts : List ℕ
-emptyInsts = replicate 16384 0
+emptyInsts = replicate 131072 0
 
 abbrev pub emptyLabels : List ℕ
-emptyLabels = replicate 2052 0
+emptyLabels = replicate 16416 0
 
 -- a text of its own: room for a line of each cell and for the last line, all 0
 abbrev pub textSize : ℕ

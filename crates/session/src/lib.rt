@@ -19,15 +19,15 @@ pub const STEPS: u64 = 10000;
 
 pub const TEXT: usize = 170131;
 
-// The slots of the dump buffer, and the number that a run ends with where they don't suffice.
-const ROOM: usize = 64;
+// The bytes of the dump buffer, 64 cells, and the number that a run ends with where they don't suffice.
+const ROOM: usize = 512;
 
 const FULL: u8 = 33;
 
-// The numbers of its tables: 4,096 and 513 records.
-const INST_NUMBERS: usize = 16384;
+// The bytes of its tables: 4,096 and 513 records.
+const INST_BYTES: usize = 131072;
 
-const LABEL_NUMBERS: usize = 2052;
+const LABEL_BYTES: usize = 16416;
 
 // No code: its contract states the theorem on the definitions.
 pub fn session_theorems()
@@ -47,15 +47,15 @@ fn is_full(ending: Ending) -> bool
 // The runs from m on, one behind the other: after 33 it goes on with the buffer emptied. At first it goes on, too.
 fn print_runs(
     image: &[u8],
-    insts: &[u64],
-    labels: &[u64],
+    insts: &[u8],
+    labels: &[u8],
     count: usize,
     m: Machine,
     text: &mut [u8; TEXT],
 ) -> usize
     ensures { λ r. ⌜ Put (now (text .entry)) 0 (report (inAll stepsInAll (program (now (image .entry)) (now (insts .entry)) (now (labels .entry)) count) dumpRoom stepsInAll m)) (now (text .exit)) r ⌝ }
 {
-    let mut dumps = [0u64; ROOM];
+    let mut dumps = [0u8; ROOM];
     let mut machine = m;
     let mut ending = Ending::Number(FULL);
     let mut steps: u64 = 0;
@@ -70,7 +70,7 @@ fn print_runs(
             STEPS - steps,
             &mut dumps,
         );
-        at = put_cell_lines(text, at, &dumps[..ran.dumped]);
+        at = put_cell_lines(text, at, &dumps, ran.dumped);
         steps = steps + ran.steps;
         machine = ran.machine;
         ending = ran.ending;
@@ -97,8 +97,8 @@ pub fn blank_text() -> [u8; TEXT]
 pub fn run_image(image: &[u8], text: &mut [u8; TEXT]) -> usize
     ensures { λ r. ⌜ Put (now (text .entry)) 0 (printed (now (image .entry))) (now (text .exit)) r ⌝ }
 {
-    let mut insts = [0u64; INST_NUMBERS];
-    let mut labels = [0u64; LABEL_NUMBERS];
+    let mut insts = [0u8; INST_BYTES];
+    let mut labels = [0u8; LABEL_BYTES];
     let did = from_binary(image, &mut insts, &mut labels);
     match did {
         Loading::Refused(number) => put_refused_line(text, 0, number),

@@ -14,7 +14,7 @@ use Rattle.machine.specs.declared.Label.{Label}
 use Rattle.machine.specs.declared.Machine.{Machine}
 use Rattle.machine.specs.Lookup.{Program, Found, leadsTo, lookup}
 use Rattle.machine.specs.Step.{Stepped, ill, exec, opOf, step, wellState}
-use Rattle.tables.specs.Tables.{instsOf}
+use Rattle.tables.specs.Tables.{numberAt, instsOf}
 use Rattle.step_core.specs.declared.Core.{Core}
 use Rattle.step_core.specs.declared.Executed.{Executed}
 use Rattle.step_core.specs.declared.Executed.the-variants.{Next, Compared, Dump, Halt, Trap, Ill}
@@ -51,12 +51,12 @@ is-named op false true false p q r h = never h
 is-named op false false b p q r h = never h
 
 -- the name of a jump or CALL lies in the image
-pub name-lies : (image xs : List ℕ) (ip : ℕ) → wellFormed image (instOf xs ip) ≡ true → looksUp (getD xs (ip * 4) 0) ≡ true →
-    nameIn image (getD xs (ip * 4 + 2) 0) (getD xs (ip * 4 + 3) 0) ≡ true
+pub name-lies : (image xs : List ℕ) (ip : ℕ) → wellFormed image (instOf xs ip) ≡ true → looksUp (numberAt xs (ip * 4)) ≡ true →
+    nameIn image (numberAt xs (ip * 4 + 2)) (numberAt xs (ip * 4 + 3)) ≡ true
 unfolding wellFormed fits
 name-lies image xs ip w l =
-    let op = getD xs (ip * 4) 0 in
-    and-right (eqb (getD xs (ip * 4 + 1) 0) 0) _ (rw (is-named op (eqb op 28) (leb 12 op) (leb op 20) refl refl refl l) at w)
+    let op = numberAt xs (ip * 4) in
+    and-right (eqb (numberAt xs (ip * 4 + 1)) 0) _ (rw (is-named op (eqb op 28) (leb 12 op) (leb op 20) refl refl refl l) at w)
 
 -- an instruction's answer, with these flags
 pub acted : {i : Machine → Stepped} {c : Core} {s ca me s' ca' me' : List ℕ} (f : ℕ) (r : Executed) → Acts i c s ca me r s' ca' me' →
@@ -72,15 +72,15 @@ acted f Ill a = record { does = a .does f; small = a .small; kept = a .kept }
 pub as-is : {e e' : Stepped} {f : ℕ} {s ca me s' ca' me' : List ℕ} {r : Executed} → Made e f s ca me r s' ca' me' → e ≡ e' → Made e' f s ca me r s' ca' me'
 as-is a q = rw (← q) a
 
-module _ (image xs : List ℕ) (labels : List Label) (count : ℕ) (inside : count * 4 ≤ length xs) where
+module _ (image xs : List ℕ) (labels : List Label) (count : ℕ) (inside : count * 32 ≤ length xs) where
   abbrev p : Program
   p = lent image (instsOf xs) labels count
 
   over : Over p xs
   over = record { table = refl; inside = inside }
 
-  pub known-at : (ip : ℕ) → ip < count → wellFormed image (instOf xs ip) ≡ true → (t : ℕ) → (looksUp (getD xs (ip * 4) 0) ≡ true → lookup p (instOf xs ip) ≡ leadsTo t) →
-      KnownAt p xs (getD xs (ip * 4) 0) t ip
+  pub known-at : (ip : ℕ) → ip < count → wellFormed image (instOf xs ip) ≡ true → (t : ℕ) → (looksUp (numberAt xs (ip * 4)) ≡ true → lookup p (instOf xs ip) ≡ leadsTo t) →
+      KnownAt p xs (numberAt xs (ip * 4)) t ip
   known-at ip below formed t finds = record { below = below; formed = formed; typ-is = refl; target-is = finds }
 
   module _ (c : Core) (f : ℕ) (s ca me : List ℕ) (small : Inside c) where
@@ -95,7 +95,7 @@ module _ (image xs : List ℕ) (labels : List Label) (count : ℕ) (inside : cou
           rw (le-leb _ _ (small .0), le-leb _ _ (small .1), lt-ltb _ _ below, le-leb _ _ (within p xs over (whole c f s ca me false)), inst-is p xs over (whole c f s ca me false) below, w) refl
 
       module _ (formed : wellFormed image (instOf xs (c .ip)) ≡ true) where
-        step-is : step p (whole c f s ca me false) ≡ exec (lookup p (instOf xs (c .ip))) (instOf xs (c .ip)) (whole c f s ca me false) (opOf (getD xs (c .ip * 4) 0))
+        step-is : step p (whole c f s ca me false) ≡ exec (lookup p (instOf xs (c .ip))) (instOf xs (c .ip)) (whole c f s ca me false) (opOf (numberAt xs (c .ip * 4)))
         unfolding step wellState
         step-is =
             rw (le-leb _ _ (small .0), le-leb _ _ (small .1), lt-ltb _ _ below, le-leb _ _ (within p xs over (whole c f s ca me false)), inst-is p xs over (whole c f s ca me false) below, formed) refl
@@ -103,11 +103,11 @@ module _ (image xs : List ℕ) (labels : List Label) (count : ℕ) (inside : cou
         module _ (r : Executed) (s' ca' me' : List ℕ) where
           -- a jump or CALL, of which `found` was found
           pub made-found : (found : Found) → found ≡ lookup p (instOf xs (c .ip)) →
-              Made (exec found (instOf xs (c .ip)) (whole c f s ca me false) (opOf (getD xs (c .ip * 4) 0))) f s ca me r s' ca' me' →
+              Made (exec found (instOf xs (c .ip)) (whole c f s ca me false) (opOf (numberAt xs (c .ip * 4)))) f s ca me r s' ca' me' →
               Made (step p (whole c f s ca me false)) f s ca me r s' ca' me'
-          made-found found e a = as-is a (ap (λ (g : Found). exec g (instOf xs (c .ip)) (whole c f s ca me false) (opOf (getD xs (c .ip * 4) 0))) e ∙ sym step-is)
+          made-found found e a = as-is a (ap (λ (g : Found). exec g (instOf xs (c .ip)) (whole c f s ca me false) (opOf (numberAt xs (c .ip * 4)))) e ∙ sym step-is)
 
           -- any other instruction
-          pub made-acts : Acts (λ (m : Machine). exec (lookup p (instOf xs (c .ip))) (instOf xs (c .ip)) m (opOf (getD xs (c .ip * 4) 0))) c s ca me r s' ca' me' →
+          pub made-acts : Acts (λ (m : Machine). exec (lookup p (instOf xs (c .ip))) (instOf xs (c .ip)) m (opOf (numberAt xs (c .ip * 4)))) c s ca me r s' ca' me' →
               Made (step p (whole c f s ca me false)) f s ca me r s' ca' me'
           made-acts a = as-is (acted f r a) (sym step-is)

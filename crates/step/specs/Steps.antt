@@ -9,7 +9,7 @@ use Rattle.machine.specs.declared.Machine.{Machine}
 use Rattle.machine.specs.declared.Label.{Label}
 use Rattle.machine.specs.Lookup.{Program, Found, lookup}
 use Rattle.machine.specs.Step.{Stepped, step, exec, opOf}
-use Rattle.tables.specs.Tables.{inst, instsOf}
+use Rattle.tables.specs.Tables.{numberAt, inst, instsOf}
 use Rattle.step_core.specs.declared.Core.{Core}
 use Rattle.step_core.specs.declared.Executed.{Executed}
 use Rattle.step_core.specs.Parts.{whole, means, Small, Untaken, Acts, foundOf}
@@ -36,7 +36,7 @@ Executes op v c s ca me r s' ca' me' =
 
 -- a program over the table xs, whose instruction at the index ip has this name
 abbrev pub NamedAt : List ℕ → ℕ → ℕ → ℕ → Type 0
-NamedAt xs ip start len = (getD xs (ip * 4 + 2) 0 ≡ start) × (getD xs (ip * 4 + 3) 0 ≡ len)
+NamedAt xs ip start len = (numberAt xs (ip * 4 + 2) ≡ start) × (numberAt xs (ip * 4 + 3) ≡ len)
 
 -- what `found` says of the instruction at the index ip: nothing, or what its lookup finds
 abbrev pub Told : Program → List ℕ → ℕ → ℕ → Type 0

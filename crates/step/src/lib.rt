@@ -31,6 +31,7 @@ use step_flow::jumps::jump;
 use step_flow::jumps::jump_if;
 use step_integer::integer_step;
 use step_stack::cells;
+use tables::number_at;
 
 // A step's answer; or the start and length of the name whose lookup it needs.
 pub enum Tried {
@@ -95,7 +96,7 @@ fn execute_instruction(
 pub fn step(
     forms: &[u8; TABLE_SIZE],
     image: &[u8],
-    insts: &[u64],
+    insts: &[u8],
     count: usize,
     keys: &mut [u8; KNOWN_LIMIT],
     targets: &mut [u16; KNOWN_LIMIT],
@@ -107,7 +108,7 @@ pub fn step(
     memory: &mut [u8; MEMORY_SIZE],
 ) -> Tried
     requires { ⌜ now forms ≡ formTable ⌝ }
-    requires { ⌜ Inside core × (count * 4 ≤ length (now insts)) × Sized (now keys) (now targets) × Listed (now insts) (now keys) (now targets) ⌝ }
+    requires { ⌜ Inside core × (count * 32 ≤ length (now insts)) × Sized (now keys) (now targets) × Listed (now insts) (now keys) (now targets) ⌝ }
     ensures { λ r. ⌜ Tries (now (image .entry)) (now (insts .entry)) count core flags found (now (keys .entry)) (now (targets .entry)) (now (stack .entry)) (now (calls .entry)) (now (memory .entry)) r (now (keys .exit)) (now (targets .exit)) (now (stack .exit)) (now (calls .exit)) (now (memory .exit)) ⌝ }
 {
     let ip = core.ip;
@@ -117,15 +118,22 @@ pub fn step(
     if !is_well_formed_at(forms, image, insts, ip) {
         return Tried::Done(Executed::Ill);
     }
-    let op = insts[ip * 4];
+    let op = number_at(insts, ip * 4);
     if looks_up(op) {
         if found == 0 {
-            return Tried::Asks(insts[ip * 4 + 2], insts[ip * 4 + 3]);
+            return Tried::Asks(number_at(insts, ip * 4 + 2), number_at(insts, ip * 4 + 3));
         }
         keep_jump(keys, targets, ip, op, found);
         Tried::Done(execute_jump(op, found, flags, core, calls))
     } else {
         learn(forms, image, insts, count, keys, ip);
-        Tried::Done(execute_instruction(op, insts[ip * 4 + 1], core, stack, calls, memory))
+        Tried::Done(execute_instruction(
+            op,
+            number_at(insts, ip * 4 + 1),
+            core,
+            stack,
+            calls,
+            memory,
+        ))
     }
 }

@@ -8,7 +8,7 @@ use lib.Dec.{eqb}
 use lib.ListN.{length}
 use Rattle.machine.specs.declared.Machine.{Machine}
 use Rattle.tables.specs.Tables.{program, recordsOf}
-use Rattle.tables.proofs.Laws.{length-records}
+use Rattle.tables.proofs.Numbers.{length-records}
 use Rattle.loader.specs.declared.Loading.{Loading}
 use Rattle.loader.specs.declared.Loading.the-variants.{Refused, Accepted}
 use Rattle.loader.specs.Loading.{Answer, refuses, starts, means, freshAt, answerOf, loadOf}

@@ -15,6 +15,8 @@ use machine::Ending;
 use machine::Machine;
 use run::Ran;
 use run::execute_program;
+use tables::NUMBER;
+use tables::number_at;
 
 // What a digest is computed by: its modulus, and what a number's halves are below. A function with a `requires` is called
 // by this crate alone.
@@ -144,8 +146,8 @@ fn digest_at(bytes: &[u8], i: usize) -> u64
 // How many of the recorded digests are those of the steps from m on, before the first that isn't.
 pub fn agreeing_steps(
     image: &[u8],
-    insts: &[u64],
-    labels: &[u64],
+    insts: &[u8],
+    labels: &[u8],
     count: usize,
     m: Machine,
     recorded: &[u8],
@@ -155,9 +157,9 @@ pub fn agreeing_steps(
     let mut before = m;
     let mut i: usize = 0;
     while i < recorded.len() / DIGEST {
-        let mut dumps = [0u64; 1];
+        let mut dumps = [0u8; NUMBER];
         let ran = execute_program(image, insts, labels, count, before, 1, &mut dumps);
-        if digest_after(ran, dumps[0]) != digest_at(recorded, i) {
+        if digest_after(ran, number_at(&dumps, 0)) != digest_at(recorded, i) {
             return i;
         }
         let after = ran.machine;
@@ -178,8 +180,8 @@ pub fn replay_image(
     image: &[u8],
     number: u8,
     recorded: &[u8],
-    insts: &mut [u64],
-    labels: &mut [u64],
+    insts: &mut [u8],
+    labels: &mut [u8],
 ) -> Replayed
     ensures { λ r. ⌜ ReplayImage (now (image .entry)) number (now (recorded .entry)) (now (insts .entry)) (now (labels .entry)) r (now (insts .exit)) (now (labels .exit)) ⌝ }
 {

@@ -71,7 +71,7 @@ use Rattle.label_host.proofs.mm_load_labels.Statement as stated
 use Rattle.label_host.proofs.mm_load_labels.Code as code
 
 abbrev stayed : Stays (call.ended .signature .params) (call.ended .kept)
-stayed = (stay-none-slice (0 ∷ []) tt (plain (λ _. u8)) yes, (gave-slice (1 ∷ []) tt (plain (λ _. u64)), (gave-slice (2 ∷ []) tt (plain (λ _. T′.the-row)), (stay-ref (3 ∷ []) tt (plain (λ _. Mc.the-row)), tt))))
+stayed = (stay-none-slice (0 ∷ []) tt (plain (λ _. u8)) yes, (gave-slice (1 ∷ []) tt (plain (λ _. u8)), (gave-slice (2 ∷ []) tt (plain (λ _. T′.the-row)), (stay-ref (3 ∷ []) tt (plain (λ _. Mc.the-row)), tt))))
 
 abbrev mv : Machine → Val
 mv m = LL.val Mc.the-type Mc′.the-laws m
@@ -128,7 +128,7 @@ module _ {M : Type 1} (𝓤 : URA M) (H : Heap 𝓤) (A : Atoms 𝓤) (W : Given
   Image = ShrSlice (named 0) κ₀ u8 .own im (gv ∷ [])
 
   abbrev Insts : Fml
-  Insts = MutSlice (named 1) κ₁ u64 .own ins (iv ∷ [])
+  Insts = MutSlice (named 1) κ₁ u8 .own ins (iv ∷ [])
 
   abbrev Labels : Fml
   Labels = MutSlice (named 2) κ₂ T′.the-row .own lab (lv ∷ [])
@@ -156,7 +156,7 @@ module _ {M : Type 1} (𝓤 : URA M) (H : Heap 𝓤) (A : Atoms 𝓤) (W : Given
       nothing ! $ move ! (7 ∷ 0 ∷ []) $ fjoin ! $ move ! (5 ∷ 0 ∷ []) $ fjoin ! $ move ! (1 ∷ 0 ∷ []) $ fjoin ! $
       -- [what is passed; the image; κ₀; κ₁; κ₂]
       nothing ! $ move ! (5 ∷ 0 ∷ []) $ join ! $ move ! (4 ∷ 0 ∷ []) $ join ! $ move ! (3 ∷ 0 ∷ []) $ join ! $
-      use2 W (raw (Load 𝓤 H A mem run .pre to-load)) (qed W (Tokens ∷ ‵ (owns (ShrSlice (named 0) κ₀ u8 ∷ MutSlice (named 1) κ₁ u64 ∷ MutSlice (named 2) κ₂ T′.the-row ∷ []) args vals) ∷ []) ∵ join ! $ frame ! $ done !) $ frame ! $ done !
+      use2 W (raw (Load 𝓤 H A mem run .pre to-load)) (qed W (Tokens ∷ ‵ (owns (ShrSlice (named 0) κ₀ u8 ∷ MutSlice (named 1) κ₁ u8 ∷ MutSlice (named 2) κ₂ T′.the-row ∷ []) args vals) ∷ []) ∵ join ! $ frame ! $ done !) $ frame ! $ done !
 
   -- ---- the call of `answered`
   abbrev to-answer : Loading → Val → Answer 𝓤 H A mem run .Ghost
@@ -170,7 +170,7 @@ module _ {M : Type 1} (𝓤 : URA M) (H : Heap 𝓤) (A : Atoms 𝓤) (W : Given
   said-answer r x = exE 𝓤 _ (λ ws. snd∗ 𝓤 (sem 𝓤 H A (lasts answered.ended tt (r, (m, tt)) ws)) (fact 𝓤 (x ≡ begunWith r m)))
 
   abbrev At-exit : Begun → List ℕ → List Label → List (Item 𝓤)
-  At-exit x d zs = ‵ (fobs γ (Mc.the-row .coded .code (x .machine))) ∷ ‵ (fbor κ₃ (Body (mem-of Mc.the-row) b o γ)) ∷ ‵ (flft κ₃ q₃) ∷ Tokens ∷ ‵ (finally T′.the-row (lab .name) zs) ∷ ‵ (finally u64 (ins .name) d) ∷ ‵ Image ∷ []
+  At-exit x d zs = ‵ (fobs γ (Mc.the-row .coded .code (x .machine))) ∷ ‵ (fbor κ₃ (Body (mem-of Mc.the-row) b o γ)) ∷ ‵ (flft κ₃ q₃) ∷ Tokens ∷ ‵ (finally T′.the-row (lab .name) zs) ∷ ‵ (finally u8 (ins .name) d) ∷ ‵ Image ∷ []
 
   exits : (r : Loading) (x : Begun) (d : List ℕ) (zs : List Label) → Is Ld.the-row (loaded x) (pv x ∷ []) → length d ≡ length (ins .now) → length zs ≡ length (lab .now) → Does r d zs → x ≡ begunWith r m
       → ent 𝓤 (⋆ 𝓤 H A (At-exit x d zs)) (Post (pv x))
@@ -184,10 +184,10 @@ module _ {M : Type 1} (𝓤 : URA M) (H : Heap 𝓤) (A : Atoms 𝓤) (W : Given
       owned ! Ld.the-row (Is Ld.the-row) (LL.makes Ld.the-type Ld′.the-plain 𝓤 H A) (loaded x) _ is $ done !
 
   module _ (𝓣 : Tables 𝓤 H) (knows : Knows 𝓤 H A mem run 𝓣) where
-    walk : Room u8 (length (im .now)) → Room u64 (length (ins .now)) → Room T′.the-row (length (lab .now))
+    walk : Room u8 (length (im .now)) → Room u8 (length (ins .now)) → Room T′.the-row (length (lab .now))
         → ent 𝓤 (onEntry 𝓤 H A call.signature (κ₀, (κ₁, (κ₂, (κ₃, tt)))) (q₀, (q₁, (q₂, (q₃, tt)))) a vs) (WpFn 𝓤 H (𝓣 .C) (𝓣 .Λ) code.function (gv ∷ iv ∷ lv ∷ vptr b o ∷ []) Post)
     walk gg gi gl =
-        qed W ((‵ (flft κ₀ q₀) ⊛ ‵ (flft κ₁ q₁) ⊛ ‵ (flft κ₂ q₂) ⊛ ‵ (flft κ₃ q₃) ⊛ ‵ ftrue) ∷ ‵ (owns (ShrSlice (named 0) κ₀ u8 ∷ MutSlice (named 1) κ₁ u64 ∷ MutSlice (named 2) κ₂ T′.the-row ∷ MutRef (named 3) κ₃ Mc.the-row ∷ []) a vs) ∷ []) ∵
+        qed W ((‵ (flft κ₀ q₀) ⊛ ‵ (flft κ₁ q₁) ⊛ ‵ (flft κ₂ q₂) ⊛ ‵ (flft κ₃ q₃) ⊛ ‵ ftrue) ∷ ‵ (owns (ShrSlice (named 0) κ₀ u8 ∷ MutSlice (named 1) κ₁ u8 ∷ MutSlice (named 2) κ₂ T′.the-row ∷ MutRef (named 3) κ₃ Mc.the-row ∷ []) a vs) ∷ []) ∵
         enter ! (𝓣 .C) (𝓣 .Λ) code.function (gv ∷ iv ∷ lv ∷ vptr b o ∷ []) _ $
         alloc1 ! (λ l₀. alloc1 ! (λ l₁. alloc1 ! (λ l₂. alloc1 ! (λ l₃. alloc1 ! (λ l₄. alloc1 ! (λ l₅. alloc1 ! (λ l₆. alloc1 ! (λ l₇. alloc1 ! (λ l₈. alloc1 ! (λ l₉. alloc1 ! (λ l₁₀. alloc1 ! (λ l₁₁. alloc0 ! $ params1 ! $
         pass1 ! (init ! 20 refl (tt, (tt, (record { fits = gg .0 }, tt)))) $ pass1 ! (init ! 18 refl (tt, (tt, (record { fits = gi .0 }, tt)))) $ pass1 ! (init ! 16 refl (tt, (tt, (record { fits = gl .0 }, tt)))) $ pass1 ! (init ! 14 refl (tt, tt)) $ pass0 ! $
@@ -235,7 +235,7 @@ module _ {M : Type 1} (𝓤 : URA M) (H : Heap 𝓤) (A : Atoms 𝓤) (W : Given
 module _ {M : Type 1} (𝓤 : URA M) (H : Heap 𝓤) (A : Atoms 𝓤) (W : Given 𝓤 H A) (mem : Memory → SProp 𝓤) (run : Routine → Fun 𝓤) where
   call-walks : (𝓣 : Tables 𝓤 H) → Knows 𝓤 H A mem run 𝓣 → Walks 𝓤 H A call.ended stayed (WpFn 𝓤 H (𝓣 .C) (𝓣 .Λ) code.function) (call.clauses 𝓤 H A mem run)
   call-walks 𝓣 knows = walked 𝓤 H A call.ended stayed (call.clauses 𝓤 H A mem run) (WpFn 𝓤 H (𝓣 .C) (𝓣 .Λ) code.function) (λ κs. (slice-vals, (slice-vals, (slice-vals, (ptr-vals, tt)))))
-      (λ κs. (shr-slice-tells (named 0) (κs .0) u8, (mut-slice-tells (named 1) (κs .1 .0) u64, (mut-slice-tells (named 2) (κs .1 .1 .0) T′.the-row, (mut-tells (named 3) (κs .1 .1 .1 .0) Mc.the-row, tt)))))
+      (λ κs. (shr-slice-tells (named 0) (κs .0) u8, (mut-slice-tells (named 1) (κs .1 .0) u8, (mut-slice-tells (named 2) (κs .1 .1 .0) T′.the-row, (mut-tells (named 3) (κs .1 .1 .1 .0) Mc.the-row, tt)))))
       (λ κs qs bounds a g are. via 𝓤 _ (fst∗ 𝓤 _ (emp 𝓤))
       (walk 𝓤 H A W mem run (κs .0) (κs .1 .0) (κs .1 .1 .0) (κs .1 .1 .1 .0) (qs .0) (qs .1 .0) (qs .1 .1 .0) (qs .1 .1 .1 .0) (a .0) (a .1 .0) (a .1 .1 .0) (a .1 .1 .1 .0 .ptr .0) (a .1 .1 .1 .0 .ptr .1) (a .1 .1 .1 .0 .name) (a .1 .1 .1 .0 .now) 𝓣 knows
       (are .0 .0 .1) (are .1 .0 .0 .1) (are .1 .1 .0 .0 .1)))
@@ -243,7 +243,7 @@ module _ {M : Type 1} (𝓤 : URA M) (H : Heap 𝓤) (A : Atoms 𝓤) (W : Given
 call-meets : {M : Type 1} (𝓤 : URA M) (H : Heap 𝓤) (A : Atoms 𝓤) → Given 𝓤 H A → (mem : Memory → SProp 𝓤) (run : Routine → Fun 𝓤) (𝓣 : Tables 𝓤 H)
     → Knows 𝓤 H A mem run 𝓣 → Meets 𝓤 H A call.signature (WpFn 𝓤 H (𝓣 .C) (𝓣 .Λ) code.function) (call.spec 𝓤 H A mem run)
 call-meets 𝓤 H A W mem run 𝓣 knows =
-    walk-meets 𝓤 H A call.ended stayed W (goes-none-slice 𝓤 H A W 4 (0 ∷ []) tt (plain (λ _. u8)) yes, (goes-gave-slice 𝓤 H A W 4 1 tt (plain (λ _. u64)), (goes-gave-slice 𝓤 H A W 4 2 tt (plain (λ _. T′.the-row)), (goes-ref 𝓤 H A W 4 3 tt (plain (λ _. Mc.the-row)), tt)))) (call.clauses 𝓤 H A mem run)
+    walk-meets 𝓤 H A call.ended stayed W (goes-none-slice 𝓤 H A W 4 (0 ∷ []) tt (plain (λ _. u8)) yes, (goes-gave-slice 𝓤 H A W 4 1 tt (plain (λ _. u8)), (goes-gave-slice 𝓤 H A W 4 2 tt (plain (λ _. T′.the-row)), (goes-ref 𝓤 H A W 4 3 tt (plain (λ _. Mc.the-row)), tt)))) (call.clauses 𝓤 H A mem run)
     (WpFn 𝓤 H (𝓣 .C) (𝓣 .Λ) code.function) (WpFn-mono 𝓤 H (W .laws) 𝓣 code.function) (call-walks 𝓤 H A W mem run 𝓣 knows)
 
 pub mm-load-labels-spec : {M : Type 1} → stated.statement M

@@ -63,7 +63,7 @@ use Rattle.label_host.proofs.mm_run_in_place.Statement as stated
 use Rattle.label_host.proofs.mm_run_in_place.Code as code
 
 abbrev stayed : Stays (call.ended .signature .params) (call.ended .kept)
-stayed = (stay-none-slice (0 ∷ []) tt (plain (λ _. u8)) yes, (stay-none-slice (1 ∷ []) tt (plain (λ _. u64)) yes, (stay-none-slice (2 ∷ []) tt (plain (λ _. T′.the-row)) yes, (stay-none (λ _. u64) yes, (gave-ref (3 ∷ []) tt (plain (λ _. Mc.the-row)), (stay-none (λ _. u64) yes, (gave-slice (4 ∷ []) tt (plain (λ _. u64)), tt)))))))
+stayed = (stay-none-slice (0 ∷ []) tt (plain (λ _. u8)) yes, (stay-none-slice (1 ∷ []) tt (plain (λ _. u8)) yes, (stay-none-slice (2 ∷ []) tt (plain (λ _. T′.the-row)) yes, (stay-none (λ _. u64) yes, (gave-ref (3 ∷ []) tt (plain (λ _. Mc.the-row)), (stay-none (λ _. u64) yes, (gave-slice (4 ∷ []) tt (plain (λ _. u8)), tt)))))))
 
 -- the last values of `execute_in_place`: the machine's is the fifth, the buffer's the seventh
 abbrev Lasts : Type 0
@@ -116,7 +116,7 @@ module _ {M : Type 1} (𝓤 : URA M) (H : Heap 𝓤) (A : Atoms 𝓤) (W : Given
   Image = ShrSlice (named 0) κ₀ u8 .own im (gv ∷ [])
 
   abbrev Insts : Fml
-  Insts = ShrSlice (named 1) κ₁ u64 .own ins (iv ∷ [])
+  Insts = ShrSlice (named 1) κ₁ u8 .own ins (iv ∷ [])
 
   abbrev Labels : Fml
   Labels = ShrSlice (named 2) κ₂ T′.the-row .own lab (lv ∷ [])
@@ -125,7 +125,7 @@ module _ {M : Type 1} (𝓤 : URA M) (H : Heap 𝓤) (A : Atoms 𝓤) (W : Given
   Mach = MutRef (named 3) κ₃ Mc.the-row .own (a .1 .1 .1 .1 .0) (vptr b o ∷ [])
 
   abbrev Dumps : Fml
-  Dumps = MutSlice (named 4) κ₄ u64 .own buf (dv ∷ [])
+  Dumps = MutSlice (named 4) κ₄ u8 .own buf (dv ∷ [])
 
   abbrev Tokens : Item 𝓤
   Tokens = ‵ (flft κ₀ q₀) ⊛ ‵ (flft κ₁ q₁) ⊛ ‵ (flft κ₂ q₂) ⊛ ‵ (flft κ₃ q₃) ⊛ ‵ (flft κ₄ q₄) ⊛ ‵ ftrue
@@ -140,14 +140,14 @@ module _ {M : Type 1} (𝓤 : URA M) (H : Heap 𝓤) (A : Atoms 𝓤) (W : Given
   goes-run : c < 2 ^ 64 → limit < 2 ^ 64 → ent 𝓤 (⋆ 𝓤 H A From) (⋆ 𝓤 H A (raw (InPlace 𝓤 H A mem run .pre to-run) ∷ ‵ Image ∷ ‵ Insts ∷ ‵ Labels ∷ []))
   goes-run fc fl =
       qed W From ∵ move ! (5 ∷ []) $ use1 W (‵ Labels ⊛ ‵ Labels) (shr-slice-copy 𝓤 H A W (named 2) κ₂ T′.the-row .twice lab (lv ∷ [])) $ split ! $
-      move ! (5 ∷ []) $ use1 W (‵ Insts ⊛ ‵ Insts) (shr-slice-copy 𝓤 H A W (named 1) κ₁ u64 .twice ins (iv ∷ [])) $ split ! $
+      move ! (5 ∷ []) $ use1 W (‵ Insts ⊛ ‵ Insts) (shr-slice-copy 𝓤 H A W (named 1) κ₁ u8 .twice ins (iv ∷ [])) $ split ! $
       move ! (5 ∷ []) $ use1 W (‵ Image ⊛ ‵ Image) (shr-slice-copy 𝓤 H A W (named 0) κ₀ u8 .twice im (gv ∷ [])) $ split ! $
       -- [the image twice; the instructions twice; the labels twice; κ₀; κ₁; κ₂; κ₃; the machine; κ₄; the buffer]
       nothing ! $ move ! (13 ∷ 0 ∷ []) $ fjoin ! $ owned ! u64 (Is u64) (uint-makes 𝓤 H A W w64) limit _ (refl, fl) $ fjoin ! $ move ! (11 ∷ 0 ∷ []) $ fjoin ! $
       owned ! usize (Is usize) (uint-makes 𝓤 H A W w64) c _ (refl, fc) $ fjoin ! $ move ! (5 ∷ 0 ∷ []) $ fjoin ! $ move ! (3 ∷ 0 ∷ []) $ fjoin ! $ move ! (1 ∷ 0 ∷ []) $ fjoin ! $
       -- [what is passed; the image; the instructions; the labels; κ₀; κ₁; κ₂; κ₃; κ₄]
       nothing ! $ move ! (9 ∷ 0 ∷ []) $ join ! $ move ! (8 ∷ 0 ∷ []) $ join ! $ move ! (7 ∷ 0 ∷ []) $ join ! $ move ! (6 ∷ 0 ∷ []) $ join ! $ move ! (5 ∷ 0 ∷ []) $ join ! $
-      use2 W (raw (InPlace 𝓤 H A mem run .pre to-run)) (qed W (Tokens ∷ ‵ (owns (ShrSlice (named 0) κ₀ u8 ∷ ShrSlice (named 1) κ₁ u64 ∷ ShrSlice (named 2) κ₂ T′.the-row ∷ usize ∷ MutRef (named 3) κ₃ Mc.the-row ∷ u64 ∷ MutSlice (named 4) κ₄ u64 ∷ []) a vs) ∷ []) ∵ join ! $ frame ! $ done !) $
+      use2 W (raw (InPlace 𝓤 H A mem run .pre to-run)) (qed W (Tokens ∷ ‵ (owns (ShrSlice (named 0) κ₀ u8 ∷ ShrSlice (named 1) κ₁ u8 ∷ ShrSlice (named 2) κ₂ T′.the-row ∷ usize ∷ MutRef (named 3) κ₃ Mc.the-row ∷ u64 ∷ MutSlice (named 4) κ₄ u8 ∷ []) a vs) ∷ []) ∵ join ! $ frame ! $ done !) $
       frame ! $ frame ! $ frame ! $ done !
 
   -- ---- the call of `ran`
@@ -161,7 +161,7 @@ module _ {M : Type 1} (𝓤 : URA M) (H : Heap 𝓤) (A : Atoms 𝓤) (W : Given
   said-ran r x = exE 𝓤 _ (λ ws. snd∗ 𝓤 (sem 𝓤 H A (lasts ran.ended tt (r, tt) ws)) (fact 𝓤 (x ≡ ranWith r)))
 
   abbrev At-exit : Ran → Val → Machine → List ℕ → List (Item 𝓤)
-  At-exit x v m′ d = ‵ (Ra.the-row .own x (v ∷ [])) ∷ Tokens ∷ ‵ (finally u64 (buf .name) d) ∷ ‵ (fres γ (Mc.the-row .coded .code m′)) ∷ ‵ Image ∷ ‵ Insts ∷ ‵ Labels ∷ []
+  At-exit x v m′ d = ‵ (Ra.the-row .own x (v ∷ [])) ∷ Tokens ∷ ‵ (finally u8 (buf .name) d) ∷ ‵ (fres γ (Mc.the-row .coded .code m′)) ∷ ‵ Image ∷ ‵ Insts ∷ ‵ Labels ∷ []
 
   exits : (r : Report) (x : Ran) (v : Val) (m′ : Machine) (d : List ℕ) → c < 2 ^ 64 → limit < 2 ^ 64 → length d ≡ length (buf .now) → Does r m′ d → x ≡ ranWith r
       → ent 𝓤 (⋆ 𝓤 H A (At-exit x v m′ d)) (Post v)
@@ -174,10 +174,10 @@ module _ {M : Type 1} (𝓤 : URA M) (H : Heap 𝓤) (A : Atoms 𝓤) (W : Given
       owned ! u64 (Is u64) (uint-makes 𝓤 H A W w64) c _ (refl, fc) $ fjoin ! $ move ! (4 ∷ 0 ∷ []) $ fjoin ! $ move ! (3 ∷ 0 ∷ []) $ fjoin ! $ move ! (2 ∷ 0 ∷ []) $ fjoin ! $ frame ! $ done !
 
   module _ (𝓣 : Tables 𝓤 H) (knows : Knows 𝓤 H A mem run 𝓣) where
-    walk : Room u8 (length (im .now)) → Room u64 (length (ins .now)) → Room T′.the-row (length (lab .now)) → c < 2 ^ 64 → limit < 2 ^ 64 → Room u64 (length (buf .now))
+    walk : Room u8 (length (im .now)) → Room u8 (length (ins .now)) → Room T′.the-row (length (lab .now)) → c < 2 ^ 64 → limit < 2 ^ 64 → Room u8 (length (buf .now))
         → ent 𝓤 (onEntry 𝓤 H A call.signature (κ₀, (κ₁, (κ₂, (κ₃, (κ₄, tt))))) (q₀, (q₁, (q₂, (q₃, (q₄, tt))))) a vs) (WpFn 𝓤 H (𝓣 .C) (𝓣 .Λ) code.function (gv ∷ iv ∷ lv ∷ vint w64 c ∷ vptr b o ∷ vint w64 limit ∷ dv ∷ []) Post)
     walk gg gi gl fc fl gd =
-        qed W (Tokens ∷ ‵ (owns (ShrSlice (named 0) κ₀ u8 ∷ ShrSlice (named 1) κ₁ u64 ∷ ShrSlice (named 2) κ₂ T′.the-row ∷ u64 ∷ MutRef (named 3) κ₃ Mc.the-row ∷ u64 ∷ MutSlice (named 4) κ₄ u64 ∷ []) a vs) ∷ []) ∵
+        qed W (Tokens ∷ ‵ (owns (ShrSlice (named 0) κ₀ u8 ∷ ShrSlice (named 1) κ₁ u8 ∷ ShrSlice (named 2) κ₂ T′.the-row ∷ u64 ∷ MutRef (named 3) κ₃ Mc.the-row ∷ u64 ∷ MutSlice (named 4) κ₄ u8 ∷ []) a vs) ∷ []) ∵
         enter ! (𝓣 .C) (𝓣 .Λ) code.function (gv ∷ iv ∷ lv ∷ vint w64 c ∷ vptr b o ∷ vint w64 limit ∷ dv ∷ []) _ $
         alloc1 ! (λ l₀. alloc1 ! (λ l₁. alloc1 ! (λ l₂. alloc1 ! (λ l₃. alloc1 ! (λ l₄. alloc1 ! (λ l₅. alloc1 ! (λ l₆. alloc1 ! (λ l₇. alloc1 ! (λ l₈. alloc1 ! (λ l₉. alloc1 ! (λ l₁₀. alloc1 ! (λ l₁₁. alloc1 ! (λ l₁₂. alloc0 ! $ params1 ! $
         pass1 ! (init ! 22 refl (tt, (tt, (record { fits = gg .0 }, tt)))) $ pass1 ! (init ! 20 refl (tt, (tt, (record { fits = gi .0 }, tt)))) $ pass1 ! (init ! 18 refl (tt, (tt, (record { fits = gl .0 }, tt)))) $ pass1 ! (init ! 16 refl (tt, record { fits = fc })) $
@@ -215,7 +215,7 @@ module _ {M : Type 1} (𝓤 : URA M) (H : Heap 𝓤) (A : Atoms 𝓤) (W : Given
 module _ {M : Type 1} (𝓤 : URA M) (H : Heap 𝓤) (A : Atoms 𝓤) (W : Given 𝓤 H A) (mem : Memory → SProp 𝓤) (run : Routine → Fun 𝓤) where
   call-walks : (𝓣 : Tables 𝓤 H) → Knows 𝓤 H A mem run 𝓣 → Walks 𝓤 H A call.ended stayed (WpFn 𝓤 H (𝓣 .C) (𝓣 .Λ) code.function) (call.clauses 𝓤 H A mem run)
   call-walks 𝓣 knows = walked 𝓤 H A call.ended stayed (call.clauses 𝓤 H A mem run) (WpFn 𝓤 H (𝓣 .C) (𝓣 .Λ) code.function) (λ κs. (slice-vals, (slice-vals, (slice-vals, (uint-vals w64, (ptr-vals, (uint-vals w64, (slice-vals, tt))))))))
-      (λ κs. (shr-slice-tells (named 0) (κs .0) u8, (shr-slice-tells (named 1) (κs .1 .0) u64, (shr-slice-tells (named 2) (κs .1 .1 .0) T′.the-row, (uint-tells w64, (mut-tells (named 3) (κs .1 .1 .1 .0) Mc.the-row, (uint-tells w64, (mut-slice-tells (named 4) (κs .1 .1 .1 .1 .0) u64, tt))))))))
+      (λ κs. (shr-slice-tells (named 0) (κs .0) u8, (shr-slice-tells (named 1) (κs .1 .0) u8, (shr-slice-tells (named 2) (κs .1 .1 .0) T′.the-row, (uint-tells w64, (mut-tells (named 3) (κs .1 .1 .1 .0) Mc.the-row, (uint-tells w64, (mut-slice-tells (named 4) (κs .1 .1 .1 .1 .0) u8, tt))))))))
       (λ κs qs bounds a g are. via 𝓤 _ (fst∗ 𝓤 _ (emp 𝓤))
       (walk 𝓤 H A W mem run (κs .0) (κs .1 .0) (κs .1 .1 .0) (κs .1 .1 .1 .0) (κs .1 .1 .1 .1 .0) (qs .0) (qs .1 .0) (qs .1 .1 .0) (qs .1 .1 .1 .0) (qs .1 .1 .1 .1 .0) (a .0) (a .1 .0) (a .1 .1 .0) (a .1 .1 .1 .0) (a .1 .1 .1 .1 .0 .ptr .0) (a .1 .1 .1 .1 .0 .ptr .1) (a .1 .1 .1 .1 .0 .name) (a .1 .1 .1 .1 .0 .now) (a .1 .1 .1 .1 .1 .0) (a .1 .1 .1 .1 .1 .1 .0) 𝓣 knows
       (are .0 .0 .1) (are .1 .0 .0 .1) (are .1 .1 .0 .0 .1) (are .1 .1 .1 .0 .1) (are .1 .1 .1 .1 .1 .0 .1) (are .1 .1 .1 .1 .1 .1 .0 .0 .1)))
@@ -223,7 +223,7 @@ module _ {M : Type 1} (𝓤 : URA M) (H : Heap 𝓤) (A : Atoms 𝓤) (W : Given
 call-meets : {M : Type 1} (𝓤 : URA M) (H : Heap 𝓤) (A : Atoms 𝓤) → Given 𝓤 H A → (mem : Memory → SProp 𝓤) (run : Routine → Fun 𝓤) (𝓣 : Tables 𝓤 H)
     → Knows 𝓤 H A mem run 𝓣 → Meets 𝓤 H A call.signature (WpFn 𝓤 H (𝓣 .C) (𝓣 .Λ) code.function) (call.spec 𝓤 H A mem run)
 call-meets 𝓤 H A W mem run 𝓣 knows =
-    walk-meets 𝓤 H A call.ended stayed W (goes-none-slice 𝓤 H A W 5 (0 ∷ []) tt (plain (λ _. u8)) yes, (goes-none-slice 𝓤 H A W 5 (1 ∷ []) tt (plain (λ _. u64)) yes, (goes-none-slice 𝓤 H A W 5 (2 ∷ []) tt (plain (λ _. T′.the-row)) yes, (goes-none 𝓤 H A W 5 (λ _. u64) yes (λ κs x f. refl), (goes-gave-ref 𝓤 H A W 5 3 tt (plain (λ _. Mc.the-row)), (goes-none 𝓤 H A W 5 (λ _. u64) yes (λ κs x f. refl), (goes-gave-slice 𝓤 H A W 5 4 tt (plain (λ _. u64)), tt))))))) (call.clauses 𝓤 H A mem run)
+    walk-meets 𝓤 H A call.ended stayed W (goes-none-slice 𝓤 H A W 5 (0 ∷ []) tt (plain (λ _. u8)) yes, (goes-none-slice 𝓤 H A W 5 (1 ∷ []) tt (plain (λ _. u8)) yes, (goes-none-slice 𝓤 H A W 5 (2 ∷ []) tt (plain (λ _. T′.the-row)) yes, (goes-none 𝓤 H A W 5 (λ _. u64) yes (λ κs x f. refl), (goes-gave-ref 𝓤 H A W 5 3 tt (plain (λ _. Mc.the-row)), (goes-none 𝓤 H A W 5 (λ _. u64) yes (λ κs x f. refl), (goes-gave-slice 𝓤 H A W 5 4 tt (plain (λ _. u8)), tt))))))) (call.clauses 𝓤 H A mem run)
     (WpFn 𝓤 H (𝓣 .C) (𝓣 .Λ) code.function) (WpFn-mono 𝓤 H (W .laws) 𝓣 code.function) (call-walks 𝓤 H A W mem run 𝓣 knows)
 
 pub mm-run-in-place-spec : {M : Type 1} → stated.statement M

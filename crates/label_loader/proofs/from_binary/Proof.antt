@@ -1,4 +1,4 @@
--- `label_loader::from_binary` meets its contract: a walk of its MIR, by hand: a loop in which the label table, a `&mut [Label]`, is lent again to `link`, and the instruction table, a `&mut [u64]`, to `fill`, each for a lifetime of the call.
+-- `label_loader::from_binary` meets its contract: a walk of its MIR, by hand: a loop in which the label table, a `&mut [Label]`, is lent again to `link`, and the instruction table, a `&mut [u8]`, to `fill`, each for a lifetime of the call.
 -- All that the proof knows of `begin`, `link`, `fill` and `answer` is that each meets its contract. Assumes nothing.
 use mathlib.Core.Path.{_≡_, refl, sym, ap, subst}
 use Prim.Native.Nat.{ℕ, _<_, _≤_, _^_, _*_, _/_}
@@ -82,7 +82,7 @@ use Rattle.label_loader.proofs.from_binary.Code as code
 use Rattle.label_loader.proofs.from_binary.Code.Mir as body
 
 abbrev stayed : Stays (from-binary.ended .signature .params) (from-binary.ended .kept)
-stayed = (stay-none-slice (0 ∷ []) tt (plain (λ _. u8)) yes, (stay-slice (1 ∷ []) tt (plain (λ _. u64)), (stay-slice (2 ∷ []) tt (plain (λ _. T′.the-row)), tt)))
+stayed = (stay-none-slice (0 ∷ []) tt (plain (λ _. u8)) yes, (stay-slice (1 ∷ []) tt (plain (λ _. u8)), (stay-slice (2 ∷ []) tt (plain (λ _. T′.the-row)), tt)))
 
 abbrev pv : Pending → Val
 pv p = LL.val Pe.the-type Pe′.the-laws p
@@ -91,7 +91,7 @@ is-own : (p : Pending) (v : Val) → Is Pe.the-row p (v ∷ []) → Is Pe.the-ro
 is-own p v is = subst (Is Pe.the-row p) (LL.tells Pe.the-type Pe′.the-laws p _ is) is
 
 -- a number of records is a usize
-quarter : (n : ℕ) → n < 2 ^ 64 → n / 4 < 2 ^ 64
+quarter : (n : ℕ) → n < 2 ^ 64 → n / 32 < 2 ^ 64
 quarter n h = omega (arith, h)
 
 module _ {M : Type 1} (𝓤 : URA M) (H : Heap 𝓤) (A : Atoms 𝓤) (mem : Memory → SProp 𝓤) (run : Routine → Fun 𝓤) where
@@ -149,7 +149,7 @@ module _ {M : Type 1} (𝓤 : URA M) (H : Heap 𝓤) (A : Atoms 𝓤) (W : Given
   Image = ShrSlice (named 0) κ₀ u8 .own im (gv ∷ [])
 
   abbrev Insts : List ℕ → Val → Fml
-  Insts d u = MutSlice (named 1) κ₁ u64 .own (xi γ d) (u ∷ [])
+  Insts d u = MutSlice (named 1) κ₁ u8 .own (xi γ d) (u ∷ [])
 
   abbrev Labels : List Label → Val → Fml
   Labels zs u = MutSlice (named 2) κ₂ T′.the-row .own (xl γ′ zs) (u ∷ [])
@@ -168,10 +168,10 @@ module _ {M : Type 1} (𝓤 : URA M) (H : Heap 𝓤) (A : Atoms 𝓤) (W : Given
 
   -- ---- the call of `begin`
   abbrev args-begin : RefT (List ℕ) × (ℕ × (ℕ × Unit {0}))
-  args-begin = (im, (length is / 4, (length ys, tt)))
+  args-begin = (im, (length is / 32, (length ys, tt)))
 
   abbrev vals-begin : List Val × (List Val × (List Val × Unit {0}))
-  vals-begin = (gv ∷ [], (vint w64 (length is / 4) ∷ [], (vint w64 (length ys) ∷ [], tt)))
+  vals-begin = (gv ∷ [], (vint w64 (length is / 32) ∷ [], (vint w64 (length ys) ∷ [], tt)))
 
   abbrev to-begin : Begin 𝓤 H A mem run .Ghost
   to-begin = (((κ₀, tt), (q₀, tt), tt, args-begin, vals-begin), tt)
@@ -179,11 +179,11 @@ module _ {M : Type 1} (𝓤 : URA M) (H : Heap 𝓤) (A : Atoms 𝓤) (W : Given
   abbrev From-begin : List (Item 𝓤)
   From-begin = ‵ (flft κ₀ q₀) ∷ ‵ Image ∷ []
 
-  goes-begin : length is / 4 < 2 ^ 64 → length ys < 2 ^ 64 → ent 𝓤 (⋆ 𝓤 H A From-begin) (⋆ 𝓤 H A (raw (Begin 𝓤 H A mem run .pre to-begin) ∷ ‵ Image ∷ []))
+  goes-begin : length is / 32 < 2 ^ 64 → length ys < 2 ^ 64 → ent 𝓤 (⋆ 𝓤 H A From-begin) (⋆ 𝓤 H A (raw (Begin 𝓤 H A mem run .pre to-begin) ∷ ‵ Image ∷ []))
   goes-begin fi fl =
       qed W From-begin ∵ move ! (1 ∷ []) $ use1 W (‵ Image ⊛ ‵ Image) (shr-slice-copy 𝓤 H A W (named 0) κ₀ u8 .twice im (gv ∷ [])) $ split ! $
       -- [the image; the image; κ₀]
-      nothing ! $ owned ! usize (Is usize) (uint-makes 𝓤 H A W w64) (length ys) _ (refl, fl) $ fjoin ! $ owned ! usize (Is usize) (uint-makes 𝓤 H A W w64) (length is / 4) _ (refl, fi) $ fjoin ! $ move ! (1 ∷ 0 ∷ []) $ fjoin ! $
+      nothing ! $ owned ! usize (Is usize) (uint-makes 𝓤 H A W w64) (length ys) _ (refl, fl) $ fjoin ! $ owned ! usize (Is usize) (uint-makes 𝓤 H A W w64) (length is / 32) _ (refl, fi) $ fjoin ! $ move ! (1 ∷ 0 ∷ []) $ fjoin ! $
       -- [what is passed; the image; κ₀]
       nothing ! $ move ! (3 ∷ 0 ∷ []) $ join ! $
       use2 W (raw (Begin 𝓤 H A mem run .pre to-begin)) (qed W ((‵ (flft κ₀ q₀) ⊛ ‵ ftrue) ∷ ‵ (owns (ShrSlice (named 0) κ₀ u8 ∷ usize ∷ usize ∷ []) args-begin vals-begin) ∷ []) ∵ join ! $ frame ! $ done !) $ frame ! $ done !
@@ -223,16 +223,16 @@ module _ {M : Type 1} (𝓤 : URA M) (H : Heap 𝓤) (A : Atoms 𝓤) (W : Given
   to-fill ν δ d p = (((κ₀, (ν ∷ [], tt)), (q₀, (fullShare, tt)), tt, args-fill δ d p, vals-fill d p), tt)
 
   abbrev From-fill : ℕ → GName → List ℕ → List (Item 𝓤)
-  From-fill ν δ d = ‵ (flft κ₀ q₀) ∷ ‵ Image ∷ ‵ (flft (ν ∷ []) fullShare) ∷ ‵ (MutSlice (named 1) (ν ∷ []) u64 .own (xi δ d) (iv d ∷ [])) ∷ []
+  From-fill ν δ d = ‵ (flft κ₀ q₀) ∷ ‵ Image ∷ ‵ (flft (ν ∷ []) fullShare) ∷ ‵ (MutSlice (named 1) (ν ∷ []) u8 .own (xi δ d) (iv d ∷ [])) ∷ []
 
-  goes-fill : (ν : ℕ) (δ : GName) (d : List ℕ) (p : Pending) → Is Pe.the-row p (pv p ∷ []) → (instLimit * 4 ≤ length d) × (p .count ≤ instLimit) → ent 𝓤 (⋆ 𝓤 H A (From-fill ν δ d)) (⋆ 𝓤 H A (raw (Fill 𝓤 H A mem run .pre (to-fill ν δ d p)) ∷ ‵ Image ∷ []))
+  goes-fill : (ν : ℕ) (δ : GName) (d : List ℕ) (p : Pending) → Is Pe.the-row p (pv p ∷ []) → (instLimit * 32 ≤ length d) × (p .count ≤ instLimit) → ent 𝓤 (⋆ 𝓤 H A (From-fill ν δ d)) (⋆ 𝓤 H A (raw (Fill 𝓤 H A mem run .pre (to-fill ν δ d p)) ∷ ‵ Image ∷ []))
   goes-fill ν δ d p is-p fits =
       qed W (From-fill ν δ d) ∵ move ! (1 ∷ []) $ use1 W (‵ Image ⊛ ‵ Image) (shr-slice-copy 𝓤 H A W (named 0) κ₀ u8 .twice im (gv ∷ [])) $ split ! $
       -- [the image; the image; κ₀; ν; the instructions]
       nothing ! $ owned ! Pe.the-row (Is Pe.the-row) (LL.makes Pe.the-type Pe′.the-plain 𝓤 H A) p _ is-p $ fjoin ! $ move ! (5 ∷ 0 ∷ []) $ fjoin ! $ move ! (1 ∷ 0 ∷ []) $ fjoin ! $
       -- [what is passed; the image; κ₀; ν]
       nothing ! $ move ! (4 ∷ 0 ∷ []) $ join ! $ move ! (3 ∷ 0 ∷ []) $ join ! $
-      use2 W (raw (Fill 𝓤 H A mem run .pre (to-fill ν δ d p))) (qed W ((‵ (flft κ₀ q₀) ⊛ ‵ (flft (ν ∷ []) fullShare) ⊛ ‵ ftrue) ∷ ‵ (owns (ShrSlice (named 0) κ₀ u8 ∷ MutSlice (named 1) (ν ∷ []) u64 ∷ Pe.the-row ∷ []) (args-fill δ d p) (vals-fill d p)) ∷ []) ∵ says ! fits $ frame ! $ done !) $ frame ! $ done !
+      use2 W (raw (Fill 𝓤 H A mem run .pre (to-fill ν δ d p))) (qed W ((‵ (flft κ₀ q₀) ⊛ ‵ (flft (ν ∷ []) fullShare) ⊛ ‵ ftrue) ∷ ‵ (owns (ShrSlice (named 0) κ₀ u8 ∷ MutSlice (named 1) (ν ∷ []) u8 ∷ Pe.the-row ∷ []) (args-fill δ d p) (vals-fill d p)) ∷ []) ∵ says ! fits $ frame ! $ done !) $ frame ! $ done !
 
   -- ---- the call of `answer`
   abbrev Answered : Pending → Loading → Type 0
@@ -247,7 +247,7 @@ module _ {M : Type 1} (𝓤 : URA M) (H : Heap 𝓤) (A : Atoms 𝓤) (W : Given
   said-answer : (p : Pending) (r : Loading) → ent 𝓤 (ensured 𝓤 H A answer.ended (answer.clauses 𝓤 H A mem run) tt (p, tt) tt r) (fact 𝓤 (Answered p r))
   said-answer p r = exE 𝓤 _ (λ ws. snd∗ 𝓤 (sem 𝓤 H A (lasts answer.ended tt (p, tt) ws)) (fact 𝓤 (Answered p r)))
 
-  module _ (𝓣 : Tables 𝓤 H) (knows : Knows 𝓤 H A mem run 𝓣) (gi : Room u64 (length is)) (gl : Room T′.the-row (length ys)) (l₀ l₁ l₂ l₃ l₄ l₅ l₆ l₇ l₈ l₉ l₁₀ l₁₁ l₁₂ l₁₃ : ℕ) where
+  module _ (𝓣 : Tables 𝓤 H) (knows : Knows 𝓤 H A mem run 𝓣) (gi : Room u8 (length is)) (gl : Room T′.the-row (length ys)) (l₀ l₁ l₂ l₃ l₄ l₅ l₆ l₇ l₈ l₉ l₁₀ l₁₁ l₁₂ l₁₃ : ℕ) where
     abbrev C : Calls 𝓤 H
     C = 𝓣 .C
 
@@ -261,13 +261,13 @@ module _ {M : Type 1} (𝓤 : URA M) (H : Heap 𝓤) (A : Atoms 𝓤) (W : Given
     bytes = sliceTy (tyRef (named 0) imm (tyInt w8))
 
     abbrev words : Ty
-    words = sliceTy (tyRef (named 1) mut word)
+    words = sliceTy (tyRef (named 1) mut (tyInt w8))
 
     abbrev slice : Ty
     slice = sliceTy (tyRef (named 2) mut (pointee (T′.the-row .written)))
 
     abbrev thin : Ty
-    thin = tyRef erased mut word
+    thin = tyRef erased mut (tyInt w8)
 
     abbrev thin′ : Ty
     thin′ = tyRef erased mut (pointee (T′.the-row .written))
@@ -295,7 +295,7 @@ module _ {M : Type 1} (𝓤 : URA M) (H : Heap 𝓤) (A : Atoms 𝓤) (W : Given
         let p : Pending = t .0 .p in
         let d : List ℕ = t .0 .insts in
         let zs : List Label = t .0 .labels in
-        let room-i = subst (Room u64) (sym (t .0 .holds .insts-long)) gi in
+        let room-i = subst (Room u8) (sym (t .0 .holds .insts-long)) gi in
         let room-l = subst (Room T′.the-row) (sym (t .0 .holds .labels-long)) gl in
         assigns ! (of-opd ! (load ! (from ! (fld ! refl (stop !))) (look-in ! 24 (sub ! 0 refl (whole !))))) (from ! (stop !)) (init ! 16 refl (tt, tt)) $
         tests ! (load ! (from ! (stop !)) (look ! 16 refl))
@@ -320,7 +320,7 @@ module _ {M : Type 1} (𝓤 : URA M) (H : Heap 𝓤) (A : Atoms 𝓤) (W : Given
         assigns ! (addr ! (from ! (fld ! refl (hop ! (look-in ! 28 (sub ! 0 refl (whole !))) (stop !))))) (from ! (stop !)) (init ! 8 refl (tt, tt)) $
         assigns ! (agg ! (and-then ! (load ! (from ! (stop !)) (look ! 8 refl)) (and-then ! (load ! (from ! (fld ! refl (stop !))) (look-in ! 28 (sub ! 1 refl (whole !)))) (no-more !)))) (from ! (stop !)) (init ! 6 refl (tt, (tt, (record { fits = room-i .0 }, tt)))) $
         lft-new ! tt (λ ν. move ! (1 ∷ 2 ∷ []) $
-        use2 W (later (some (λ (δ : GName). ‵ (MutSlice (named 1) (ν ∷ []) u64 .own (xi δ d) (iv d ∷ [])) ⊛ ‵ (LentAgain u64 κ₁ (ν ∷ []) q₁ γ b o δ d)))) (lends-again u64 κ₁ (ν ∷ []) q₁ γ b o 𝓤 H A W (named 1) (named 1) d) $ await ! tt $ pick ! (λ δ. split ! $
+        use2 W (later (some (λ (δ : GName). ‵ (MutSlice (named 1) (ν ∷ []) u8 .own (xi δ d) (iv d ∷ [])) ⊛ ‵ (LentAgain u8 κ₁ (ν ∷ []) q₁ γ b o δ d)))) (lends-again u8 κ₁ (ν ∷ []) q₁ γ b o 𝓤 H A W (named 1) (named 1) d) $ await ! tt $ pick ! (λ δ. split ! $
         move ! (6 ∷ 5 ∷ 2 ∷ 0 ∷ []) $ cut (From-fill ν δ d) (raw (Fill 𝓤 H A mem run .pre (to-fill ν δ d p)) ∷ ‵ Image ∷ []) _ (goes-fill ν δ d p (t .1) (fit (im .now) is ys (t .0) on)) $
         calls-at-last ! (fmOf 𝓤 H (W .laws) 𝓣) (Fill 𝓤 H A mem run) (knows .fills) (to-fill ν δ d p) (and-then ! (load ! (from ! (stop !)) (look ! 29 refl)) (and-then ! (load ! (from ! (stop !)) (look ! 5 refl)) (and-then ! (load ! (from ! (stop !)) (look ! 23 refl)) (no-more !)))) (λ v.
         use1 W (later (some (λ (r : Pending). ((‵ (flft κ₀ q₀) ⊛ ‵ (flft (ν ∷ []) fullShare) ⊛ ‵ ftrue) ⊛ ‵ (Pe.the-row .own r (v ∷ []))) ⊛ raw (ensured 𝓤 H A fill.ended (fill.clauses 𝓤 H A mem run) (κ₀, (ν ∷ [], tt)) (args-fill δ d p) tt r)))) (id⊢ 𝓤 _) $ await ! tt $ pick ! (λ r.
@@ -328,7 +328,7 @@ module _ {M : Type 1} (𝓤 : URA M) (H : Heap 𝓤) (A : Atoms 𝓤) (W : Given
         split ! $ move ! (1 ∷ []) $ heard ! (Fills (im .now) d p r (ws .1 .0)) (λ filled.
         fsplit ! $ drop ! $ fsplit ! $ move ! (1 ∷ []) $ drop ! $ fsplit ! $ move ! (1 ∷ []) $ feqL ! (λ el.
         move ! (1 ∷ []) $ split ! $ split ! $ move ! (1 ∷ []) $ split ! $ lft-end ! tt $ move ! (0 ∷ 6 ∷ 4 ∷ []) $
-        use3 W (later (‵ (Insts (ws .1 .0) (iv d)) ⊛ ‵ (flft κ₁ q₁))) (comes-back u64 κ₁ (ν ∷ []) q₁ γ b o 𝓤 H A W (named 1) (named 1) d δ (ws .1 .0) room-i el) $ await ! tt $ split ! $ move ! (2 ∷ []) $ drop ! $ move ! (3 ∷ []) $
+        use3 W (later (‵ (Insts (ws .1 .0) (iv d)) ⊛ ‵ (flft κ₁ q₁))) (comes-back u8 κ₁ (ν ∷ []) q₁ γ b o 𝓤 H A W (named 1) (named 1) d δ (ws .1 .0) room-i el) $ await ! tt $ split ! $ move ! (2 ∷ []) $ drop ! $ move ! (3 ∷ []) $
         peeks ! Pe.the-row (Is Pe.the-row) (shows 𝓤 H A Pe.the-row) r (v ∷ []) (λ isr.
         land-last ! (from ! (stop !)) (store ! 25 refl (LL.lawful Pe.the-type Pe′.the-laws 𝓤 H A W .typed r _ isr .0)) $ rewrite ! 25 (λ (u : Val). ‵ (fat fullShare Pe′.mir l₄ 0 u)) (ap only (LL.tells Pe.the-type Pe′.the-laws r _ isr)) refl $
         drop ! $ move ! (0 ∷ 1 ∷ 4 ∷ 5 ∷ 3 ∷ 2 ∷ []) $
@@ -367,10 +367,10 @@ module _ {M : Type 1} (𝓤 : URA M) (H : Heap 𝓤) (A : Atoms 𝓤) (W : Given
         first ! $ turns (begun (im .now) is ys r began fits, is-own r v isr))))))
 
   module _ (𝓣 : Tables 𝓤 H) (knows : Knows 𝓤 H A mem run 𝓣) where
-    walk : Room u8 (length (im .now)) → Room u64 (length is) → Room T′.the-row (length ys)
+    walk : Room u8 (length (im .now)) → Room u8 (length is) → Room T′.the-row (length ys)
         → ent 𝓤 (onEntry 𝓤 H A from-binary.signature (κ₀, (κ₁, (κ₂, tt))) (q₀, (q₁, (q₂, tt))) a vs) (WpFn 𝓤 H (𝓣 .C) (𝓣 .Λ) code.function (gv ∷ iv is ∷ lv ys ∷ []) Post)
     walk gg gi gl =
-        qed W ((‵ (flft κ₀ q₀) ⊛ ‵ (flft κ₁ q₁) ⊛ ‵ (flft κ₂ q₂) ⊛ ‵ ftrue) ∷ ‵ (owns (ShrSlice (named 0) κ₀ u8 ∷ MutSlice (named 1) κ₁ u64 ∷ MutSlice (named 2) κ₂ T′.the-row ∷ []) a vs) ∷ []) ∵ enter ! (𝓣 .C) (𝓣 .Λ) code.function (gv ∷ iv is ∷ lv ys ∷ []) _ $
+        qed W ((‵ (flft κ₀ q₀) ⊛ ‵ (flft κ₁ q₁) ⊛ ‵ (flft κ₂ q₂) ⊛ ‵ ftrue) ∷ ‵ (owns (ShrSlice (named 0) κ₀ u8 ∷ MutSlice (named 1) κ₁ u8 ∷ MutSlice (named 2) κ₂ T′.the-row ∷ []) a vs) ∷ []) ∵ enter ! (𝓣 .C) (𝓣 .Λ) code.function (gv ∷ iv is ∷ lv ys ∷ []) _ $
         alloc1 ! (λ l₀. alloc1 ! (λ l₁. alloc1 ! (λ l₂. alloc1 ! (λ l₃. alloc1 ! (λ l₄. alloc1 ! (λ l₅. alloc1 ! (λ l₆. alloc1 ! (λ l₇. alloc1 ! (λ l₈. alloc1 ! (λ l₉. alloc1 ! (λ l₁₀. alloc1 ! (λ l₁₁. alloc1 ! (λ l₁₂. alloc1 ! (λ l₁₃. alloc0 ! $ params1 ! $
         pass1 ! (init ! 24 refl (tt, (tt, (record { fits = gg .0 }, tt)))) $ pass1 ! (init ! 22 refl (tt, (tt, (record { fits = gi .0 }, tt)))) $ pass1 ! (init ! 20 refl (tt, (tt, (record { fits = gl .0 }, tt)))) $ pass0 ! $
         move ! (28 ∷ 29 ∷ []) $ split ! $ move ! (1 ∷ []) $ split ! $ move ! (1 ∷ []) $ split ! $ move ! (1 ∷ []) $ drop ! $
@@ -382,14 +382,14 @@ module _ {M : Type 1} (𝓤 : URA M) (H : Heap 𝓤) (A : Atoms 𝓤) (W : Given
 module _ {M : Type 1} (𝓤 : URA M) (H : Heap 𝓤) (A : Atoms 𝓤) (W : Given 𝓤 H A) (mem : Memory → SProp 𝓤) (run : Routine → Fun 𝓤) where
   from-binary-walks : (𝓣 : Tables 𝓤 H) → Knows 𝓤 H A mem run 𝓣 → Walks 𝓤 H A from-binary.ended stayed (WpFn 𝓤 H (𝓣 .C) (𝓣 .Λ) code.function) (from-binary.clauses 𝓤 H A mem run)
   from-binary-walks 𝓣 knows = walked 𝓤 H A from-binary.ended stayed (from-binary.clauses 𝓤 H A mem run) (WpFn 𝓤 H (𝓣 .C) (𝓣 .Λ) code.function) (λ κs. (slice-vals, (slice-vals, (slice-vals, tt))))
-      (λ κs. (shr-slice-tells (named 0) (κs .0) u8, (mut-slice-tells (named 1) (κs .1 .0) u64, (mut-slice-tells (named 2) (κs .1 .1 .0) T′.the-row, tt))))
+      (λ κs. (shr-slice-tells (named 0) (κs .0) u8, (mut-slice-tells (named 1) (κs .1 .0) u8, (mut-slice-tells (named 2) (κs .1 .1 .0) T′.the-row, tt))))
       (λ κs qs bounds a g are. via 𝓤 _ (fst∗ 𝓤 _ (emp 𝓤))
       (walk 𝓤 H A W mem run (κs .0) (κs .1 .0) (κs .1 .1 .0) (qs .0) (qs .1 .0) (qs .1 .1 .0) (a .0) (a .1 .0 .ptr .0) (a .1 .0 .ptr .1) (a .1 .0 .name) (a .1 .0 .now) (a .1 .1 .0 .ptr .0) (a .1 .1 .0 .ptr .1) (a .1 .1 .0 .name) (a .1 .1 .0 .now) 𝓣 knows (are .0 .0 .1) (are .1 .0 .0 .1) (are .1 .1 .0 .0 .1)))
 
 from-binary-meets : {M : Type 1} (𝓤 : URA M) (H : Heap 𝓤) (A : Atoms 𝓤) → Given 𝓤 H A → (mem : Memory → SProp 𝓤) (run : Routine → Fun 𝓤) (𝓣 : Tables 𝓤 H)
     → Knows 𝓤 H A mem run 𝓣 → Meets 𝓤 H A from-binary.signature (WpFn 𝓤 H (𝓣 .C) (𝓣 .Λ) code.function) (from-binary.spec 𝓤 H A mem run)
 from-binary-meets 𝓤 H A W mem run 𝓣 knows =
-    walk-meets 𝓤 H A from-binary.ended stayed W (goes-none-slice 𝓤 H A W 3 (0 ∷ []) tt (plain (λ _. u8)) yes, (goes-slice 𝓤 H A W 3 1 tt (plain (λ _. u64)), (goes-slice 𝓤 H A W 3 2 tt (plain (λ _. T′.the-row)), tt))) (from-binary.clauses 𝓤 H A mem run)
+    walk-meets 𝓤 H A from-binary.ended stayed W (goes-none-slice 𝓤 H A W 3 (0 ∷ []) tt (plain (λ _. u8)) yes, (goes-slice 𝓤 H A W 3 1 tt (plain (λ _. u8)), (goes-slice 𝓤 H A W 3 2 tt (plain (λ _. T′.the-row)), tt))) (from-binary.clauses 𝓤 H A mem run)
     (WpFn 𝓤 H (𝓣 .C) (𝓣 .Λ) code.function) (WpFn-mono 𝓤 H (W .laws) 𝓣 code.function) (from-binary-walks 𝓤 H A W mem run 𝓣 knows)
 
 pub from-binary-spec : {M : Type 1} → stated.statement M

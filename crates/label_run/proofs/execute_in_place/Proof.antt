@@ -44,14 +44,13 @@ use denote.Exit.{yes}
 use Rattle.machine.specs.declared.Label.{Label}
 use Rattle.machine.specs.declared.Machine.{Machine}
 use Rattle.machine.specs.Run.{Result}
-use Rattle.machine.specs.Run as definition
 use Rattle.machine.proofs.Label as T′
 use Rattle.machine.proofs.Machine as Mc
 use Rattle.machine.proofs.Machine.Laws as Mc′
 use Rattle.tables.specs.Tables.{instsOf}
 use Rattle.lookup.specs.Walks.{lent}
 use Rattle.run.specs.declared.Ran.{Ran}
-use Rattle.run.specs.Runs.{answer}
+use Rattle.run.specs.Runs.{answer, runBytes}
 use Rattle.run.proofs.Ran as Rn
 use Rattle.run.proofs.Ran.Laws as Rn′
 use Rattle.label_run.specs.declared.Report.{Report}
@@ -67,7 +66,7 @@ use Rattle.label_run.proofs.execute_in_place.Statement as stated
 use Rattle.label_run.proofs.execute_in_place.Code as code
 
 abbrev stayed : Stays (in-place.ended .signature .params) (in-place.ended .kept)
-stayed = (stay-none-slice (0 ∷ []) tt (plain (λ _. u8)) yes, (stay-none-slice (1 ∷ []) tt (plain (λ _. u64)) yes, (stay-none-slice (2 ∷ []) tt (plain (λ _. T′.the-row)) yes, (stay-none (λ _. usize) yes, (stay-ref (3 ∷ []) tt (plain (λ _. Mc.the-row)), (stay-none (λ _. u64) yes, (gave-slice (4 ∷ []) tt (plain (λ _. u64)), tt)))))))
+stayed = (stay-none-slice (0 ∷ []) tt (plain (λ _. u8)) yes, (stay-none-slice (1 ∷ []) tt (plain (λ _. u8)) yes, (stay-none-slice (2 ∷ []) tt (plain (λ _. T′.the-row)) yes, (stay-none (λ _. usize) yes, (stay-ref (3 ∷ []) tt (plain (λ _. Mc.the-row)), (stay-none (λ _. u64) yes, (gave-slice (4 ∷ []) tt (plain (λ _. u8)), tt)))))))
 
 abbrev mv : Machine → Val
 mv m = LL.val Mc.the-type Mc′.the-laws m
@@ -96,7 +95,7 @@ module _ {M : Type 1} (𝓤 : URA M) (H : Heap 𝓤) (A : Atoms 𝓤) (mem : Mem
 
 module _ {M : Type 1} (𝓤 : URA M) (H : Heap 𝓤) (A : Atoms 𝓤) (W : Given 𝓤 H A) (mem : Memory → SProp 𝓤) (run : Routine → Fun 𝓤) (κ₀ κ₁ κ₂ κ₃ κ₄ : Lft) (q₀ q₁ q₂ q₃ q₄ : Share) (im ins : RefT (List ℕ)) (lab : RefT (List Label)) (c b o : ℕ) (γ : GName) (m : Machine) (limit : ℕ) (buf : RefT (List ℕ)) where
   abbrev whole-run : Result
-  whole-run = definition.run (lent (im .now) (instsOf (ins .now)) (lab .now) c) limit (buf .now) m
+  whole-run = runBytes (lent (im .now) (instsOf (ins .now)) (lab .now) c) limit (buf .now) m
 
   abbrev gv : Val
   gv = sliceVal (im .ptr) (length (im .now))
@@ -123,13 +122,13 @@ module _ {M : Type 1} (𝓤 : URA M) (H : Heap 𝓤) (A : Atoms 𝓤) (W : Given
   Image = ShrSlice (named 0) κ₀ u8 .own im (gv ∷ [])
 
   abbrev Insts : Fml
-  Insts = ShrSlice (named 1) κ₁ u64 .own ins (iv ∷ [])
+  Insts = ShrSlice (named 1) κ₁ u8 .own ins (iv ∷ [])
 
   abbrev Labels : Fml
   Labels = ShrSlice (named 2) κ₂ T′.the-row .own lab (lv ∷ [])
 
   abbrev Dumps : Fml
-  Dumps = MutSlice (named 4) κ₄ u64 .own buf (dv ∷ [])
+  Dumps = MutSlice (named 4) κ₄ u8 .own buf (dv ∷ [])
 
   abbrev Tokens : Item 𝓤
   Tokens = ‵ (flft κ₀ q₀) ⊛ ‵ (flft κ₁ q₁) ⊛ ‵ (flft κ₂ q₂) ⊛ ‵ (flft κ₄ q₄) ⊛ ‵ ftrue
@@ -150,18 +149,18 @@ module _ {M : Type 1} (𝓤 : URA M) (H : Heap 𝓤) (A : Atoms 𝓤) (W : Given
   goes-run : c < 2 ^ 64 → limit < 2 ^ 64 → Is Mc.the-row m (mv m ∷ []) → ent 𝓤 (⋆ 𝓤 H A From) (⋆ 𝓤 H A (raw (Run 𝓤 H A mem run .pre to) ∷ ‵ Image ∷ ‵ Insts ∷ ‵ Labels ∷ []))
   goes-run fc fl is =
       qed W From ∵ move ! (5 ∷ []) $ use1 W (‵ Labels ⊛ ‵ Labels) (shr-slice-copy 𝓤 H A W (named 2) κ₂ T′.the-row .twice lab (lv ∷ [])) $ split ! $
-      move ! (5 ∷ []) $ use1 W (‵ Insts ⊛ ‵ Insts) (shr-slice-copy 𝓤 H A W (named 1) κ₁ u64 .twice ins (iv ∷ [])) $ split ! $
+      move ! (5 ∷ []) $ use1 W (‵ Insts ⊛ ‵ Insts) (shr-slice-copy 𝓤 H A W (named 1) κ₁ u8 .twice ins (iv ∷ [])) $ split ! $
       move ! (5 ∷ []) $ use1 W (‵ Image ⊛ ‵ Image) (shr-slice-copy 𝓤 H A W (named 0) κ₀ u8 .twice im (gv ∷ [])) $ split ! $
       -- [the image twice; the instructions twice; the labels twice; κ₀; κ₁; κ₂; κ₄; the buffer]
       nothing ! $ move ! (11 ∷ 0 ∷ []) $ fjoin ! $ owned ! u64 (Is u64) (uint-makes 𝓤 H A W w64) limit _ (refl, fl) $ fjoin ! $ owned ! Mc.the-row (Is Mc.the-row) (LL.makes Mc.the-type Mc′.the-plain 𝓤 H A) m _ is $ fjoin ! $
       owned ! usize (Is usize) (uint-makes 𝓤 H A W w64) c _ (refl, fc) $ fjoin ! $ move ! (5 ∷ 0 ∷ []) $ fjoin ! $ move ! (3 ∷ 0 ∷ []) $ fjoin ! $ move ! (1 ∷ 0 ∷ []) $ fjoin ! $
       -- [what is passed; the image; the instructions; the labels; κ₀; κ₁; κ₂; κ₄]
       nothing ! $ move ! (8 ∷ 0 ∷ []) $ join ! $ move ! (7 ∷ 0 ∷ []) $ join ! $ move ! (6 ∷ 0 ∷ []) $ join ! $ move ! (5 ∷ 0 ∷ []) $ join ! $
-      use2 W (raw (Run 𝓤 H A mem run .pre to)) (qed W (Tokens ∷ ‵ (owns (ShrSlice (named 0) κ₀ u8 ∷ ShrSlice (named 1) κ₁ u64 ∷ ShrSlice (named 2) κ₂ T′.the-row ∷ usize ∷ Mc.the-row ∷ u64 ∷ MutSlice (named 3) κ₄ u64 ∷ []) args vals) ∷ []) ∵ join ! $ frame ! $ done !) $
+      use2 W (raw (Run 𝓤 H A mem run .pre to)) (qed W (Tokens ∷ ‵ (owns (ShrSlice (named 0) κ₀ u8 ∷ ShrSlice (named 1) κ₁ u8 ∷ ShrSlice (named 2) κ₂ T′.the-row ∷ usize ∷ Mc.the-row ∷ u64 ∷ MutSlice (named 3) κ₄ u8 ∷ []) args vals) ∷ []) ∵ join ! $ frame ! $ done !) $
       frame ! $ frame ! $ frame ! $ done !
 
   abbrev At-exit : Ran → List ℕ → List (Item 𝓤)
-  At-exit r d = ‵ (fobs γ (Mc.the-row .coded .code (r .machine))) ∷ ‵ (fbor κ₃ (Body (mem-of Mc.the-row) b o γ)) ∷ ‵ (flft κ₃ q₃) ∷ Tokens ∷ ‵ (finally u64 (buf .name) d) ∷ ‵ Image ∷ ‵ Insts ∷ ‵ Labels ∷ []
+  At-exit r d = ‵ (fobs γ (Mc.the-row .coded .code (r .machine))) ∷ ‵ (fbor κ₃ (Body (mem-of Mc.the-row) b o γ)) ∷ ‵ (flft κ₃ q₃) ∷ Tokens ∷ ‵ (finally u8 (buf .name) d) ∷ ‵ Image ∷ ‵ Insts ∷ ‵ Labels ∷ []
 
   exits : (r : Ran) (d : List ℕ) → c < 2 ^ 64 → limit < 2 ^ 64 → Is Rp.the-row (report r) (pv r ∷ []) → length d ≡ length (buf .now) → answer r d ≡ whole-run
       → ent 𝓤 (⋆ 𝓤 H A (At-exit r d)) (Post (pv r))
@@ -176,10 +175,10 @@ module _ {M : Type 1} (𝓤 : URA M) (H : Heap 𝓤) (A : Atoms 𝓤) (W : Given
       owned ! Rp.the-row (Is Rp.the-row) (LL.makes Rp.the-type Rp′.the-plain 𝓤 H A) (report r) _ is $ done !
 
   module _ (𝓣 : Tables 𝓤 H) (known : Triple 𝓤 (𝓣 .C #label_run·execute-program) (Run 𝓤 H A mem run)) where
-    walk : Room u8 (length (im .now)) → Room u64 (length (ins .now)) → Room T′.the-row (length (lab .now)) → c < 2 ^ 64 → limit < 2 ^ 64 → Room u64 (length (buf .now))
+    walk : Room u8 (length (im .now)) → Room u8 (length (ins .now)) → Room T′.the-row (length (lab .now)) → c < 2 ^ 64 → limit < 2 ^ 64 → Room u8 (length (buf .now))
         → ent 𝓤 (onEntry 𝓤 H A in-place.signature (κ₀, (κ₁, (κ₂, (κ₃, (κ₄, tt))))) (q₀, (q₁, (q₂, (q₃, (q₄, tt))))) a vs) (WpFn 𝓤 H (𝓣 .C) (𝓣 .Λ) code.function (gv ∷ iv ∷ lv ∷ vint w64 c ∷ vptr b o ∷ vint w64 limit ∷ dv ∷ []) Post)
     walk gg gi gl fc fl gd =
-        qed W ((‵ (flft κ₀ q₀) ⊛ ‵ (flft κ₁ q₁) ⊛ ‵ (flft κ₂ q₂) ⊛ ‵ (flft κ₃ q₃) ⊛ ‵ (flft κ₄ q₄) ⊛ ‵ ftrue) ∷ ‵ (owns (ShrSlice (named 0) κ₀ u8 ∷ ShrSlice (named 1) κ₁ u64 ∷ ShrSlice (named 2) κ₂ T′.the-row ∷ usize ∷ MutRef (named 3) κ₃ Mc.the-row ∷ u64 ∷ MutSlice (named 4) κ₄ u64 ∷ []) a vs) ∷ []) ∵
+        qed W ((‵ (flft κ₀ q₀) ⊛ ‵ (flft κ₁ q₁) ⊛ ‵ (flft κ₂ q₂) ⊛ ‵ (flft κ₃ q₃) ⊛ ‵ (flft κ₄ q₄) ⊛ ‵ ftrue) ∷ ‵ (owns (ShrSlice (named 0) κ₀ u8 ∷ ShrSlice (named 1) κ₁ u8 ∷ ShrSlice (named 2) κ₂ T′.the-row ∷ usize ∷ MutRef (named 3) κ₃ Mc.the-row ∷ u64 ∷ MutSlice (named 4) κ₄ u8 ∷ []) a vs) ∷ []) ∵
         enter ! (𝓣 .C) (𝓣 .Λ) code.function (gv ∷ iv ∷ lv ∷ vint w64 c ∷ vptr b o ∷ vint w64 limit ∷ dv ∷ []) _ $
         alloc1 ! (λ l₀. alloc1 ! (λ l₁. alloc1 ! (λ l₂. alloc1 ! (λ l₃. alloc1 ! (λ l₄. alloc1 ! (λ l₅. alloc1 ! (λ l₆. alloc1 ! (λ l₇. alloc1 ! (λ l₈. alloc1 ! (λ l₉. alloc1 ! (λ l₁₀. alloc1 ! (λ l₁₁. alloc0 ! $ params1 ! $
         pass1 ! (init ! 20 refl (tt, (tt, (record { fits = gg .0 }, tt)))) $ pass1 ! (init ! 18 refl (tt, (tt, (record { fits = gi .0 }, tt)))) $ pass1 ! (init ! 16 refl (tt, (tt, (record { fits = gl .0 }, tt)))) $ pass1 ! (init ! 14 refl (tt, record { fits = fc })) $
@@ -220,7 +219,7 @@ module _ {M : Type 1} (𝓤 : URA M) (H : Heap 𝓤) (A : Atoms 𝓤) (W : Given
 module _ {M : Type 1} (𝓤 : URA M) (H : Heap 𝓤) (A : Atoms 𝓤) (W : Given 𝓤 H A) (mem : Memory → SProp 𝓤) (run : Routine → Fun 𝓤) where
   in-place-walks : (𝓣 : Tables 𝓤 H) → Triple 𝓤 (𝓣 .C #label_run·execute-program) (Run 𝓤 H A mem run) → Walks 𝓤 H A in-place.ended stayed (WpFn 𝓤 H (𝓣 .C) (𝓣 .Λ) code.function) (in-place.clauses 𝓤 H A mem run)
   in-place-walks 𝓣 known = walked 𝓤 H A in-place.ended stayed (in-place.clauses 𝓤 H A mem run) (WpFn 𝓤 H (𝓣 .C) (𝓣 .Λ) code.function) (λ κs. (slice-vals, (slice-vals, (slice-vals, (uint-vals w64, (ptr-vals, (uint-vals w64, (slice-vals, tt))))))))
-      (λ κs. (shr-slice-tells (named 0) (κs .0) u8, (shr-slice-tells (named 1) (κs .1 .0) u64, (shr-slice-tells (named 2) (κs .1 .1 .0) T′.the-row, (uint-tells w64, (mut-tells (named 3) (κs .1 .1 .1 .0) Mc.the-row, (uint-tells w64, (mut-slice-tells (named 4) (κs .1 .1 .1 .1 .0) u64, tt))))))))
+      (λ κs. (shr-slice-tells (named 0) (κs .0) u8, (shr-slice-tells (named 1) (κs .1 .0) u8, (shr-slice-tells (named 2) (κs .1 .1 .0) T′.the-row, (uint-tells w64, (mut-tells (named 3) (κs .1 .1 .1 .0) Mc.the-row, (uint-tells w64, (mut-slice-tells (named 4) (κs .1 .1 .1 .1 .0) u8, tt))))))))
       (λ κs qs bounds a g are. via 𝓤 _ (fst∗ 𝓤 _ (emp 𝓤))
       (walk 𝓤 H A W mem run (κs .0) (κs .1 .0) (κs .1 .1 .0) (κs .1 .1 .1 .0) (κs .1 .1 .1 .1 .0) (qs .0) (qs .1 .0) (qs .1 .1 .0) (qs .1 .1 .1 .0) (qs .1 .1 .1 .1 .0) (a .0) (a .1 .0) (a .1 .1 .0) (a .1 .1 .1 .0) (a .1 .1 .1 .1 .0 .ptr .0) (a .1 .1 .1 .1 .0 .ptr .1) (a .1 .1 .1 .1 .0 .name) (a .1 .1 .1 .1 .0 .now) (a .1 .1 .1 .1 .1 .0) (a .1 .1 .1 .1 .1 .1 .0) 𝓣 known
       (are .0 .0 .1) (are .1 .0 .0 .1) (are .1 .1 .0 .0 .1) (are .1 .1 .1 .0 .1) (are .1 .1 .1 .1 .1 .0 .1) (are .1 .1 .1 .1 .1 .1 .0 .0 .1)))
@@ -228,7 +227,7 @@ module _ {M : Type 1} (𝓤 : URA M) (H : Heap 𝓤) (A : Atoms 𝓤) (W : Given
 in-place-meets : {M : Type 1} (𝓤 : URA M) (H : Heap 𝓤) (A : Atoms 𝓤) → Given 𝓤 H A → (mem : Memory → SProp 𝓤) (run : Routine → Fun 𝓤) (𝓣 : Tables 𝓤 H)
     → Triple 𝓤 (𝓣 .C #label_run·execute-program) (Run 𝓤 H A mem run) → Meets 𝓤 H A in-place.signature (WpFn 𝓤 H (𝓣 .C) (𝓣 .Λ) code.function) (in-place.spec 𝓤 H A mem run)
 in-place-meets 𝓤 H A W mem run 𝓣 known =
-    walk-meets 𝓤 H A in-place.ended stayed W (goes-none-slice 𝓤 H A W 5 (0 ∷ []) tt (plain (λ _. u8)) yes, (goes-none-slice 𝓤 H A W 5 (1 ∷ []) tt (plain (λ _. u64)) yes, (goes-none-slice 𝓤 H A W 5 (2 ∷ []) tt (plain (λ _. T′.the-row)) yes, (goes-none 𝓤 H A W 5 (λ _. usize) yes (λ κs x f. refl), (goes-ref 𝓤 H A W 5 3 tt (plain (λ _. Mc.the-row)), (goes-none 𝓤 H A W 5 (λ _. u64) yes (λ κs x f. refl), (goes-gave-slice 𝓤 H A W 5 4 tt (plain (λ _. u64)), tt))))))) (in-place.clauses 𝓤 H A mem run)
+    walk-meets 𝓤 H A in-place.ended stayed W (goes-none-slice 𝓤 H A W 5 (0 ∷ []) tt (plain (λ _. u8)) yes, (goes-none-slice 𝓤 H A W 5 (1 ∷ []) tt (plain (λ _. u8)) yes, (goes-none-slice 𝓤 H A W 5 (2 ∷ []) tt (plain (λ _. T′.the-row)) yes, (goes-none 𝓤 H A W 5 (λ _. usize) yes (λ κs x f. refl), (goes-ref 𝓤 H A W 5 3 tt (plain (λ _. Mc.the-row)), (goes-none 𝓤 H A W 5 (λ _. u64) yes (λ κs x f. refl), (goes-gave-slice 𝓤 H A W 5 4 tt (plain (λ _. u8)), tt))))))) (in-place.clauses 𝓤 H A mem run)
     (WpFn 𝓤 H (𝓣 .C) (𝓣 .Λ) code.function) (WpFn-mono 𝓤 H (W .laws) 𝓣 code.function) (in-place-walks 𝓤 H A W mem run 𝓣 known)
 
 pub execute-in-place-spec : {M : Type 1} → stated.statement M

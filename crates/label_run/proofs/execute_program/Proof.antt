@@ -1,5 +1,5 @@
 -- `label_run::execute_program` meets its contract: a walk of its MIR, by hand: a loop in which the label table is passed on to `lookup`, and five local arrays and
--- the dump buffer, a `&mut [u64]`, are lent to `steps`, each for a lifetime of the call, and come back. Of `begin`, `lookup`, `steps` and `pack` the proof knows their
+-- the dump buffer, a `&mut [u8]`, are lent to `steps`, each for a lifetime of the call, and come back. Of `begin`, `lookup`, `steps` and `pack` the proof knows their
 -- contracts alone. Assumes nothing.
 use mathlib.Core.Path.{_≡_, refl, sym, ap, subst}
 use Prim.Native.Nat.{ℕ, _<_, _≤_, _^_}
@@ -48,7 +48,6 @@ use denote.Exit.{yes}
 use Rattle.inst.specs.declared.Inst.{Inst}
 use Rattle.machine.specs.declared.Label.{Label}
 use Rattle.machine.specs.declared.Machine.{Machine}
-use Rattle.machine.specs.Run as definition
 use Rattle.machine.proofs.Label as T′
 use Rattle.machine.proofs.Machine as Mc
 use Rattle.machine.proofs.Machine.Laws as Mc′
@@ -58,7 +57,7 @@ use Rattle.step_core.proofs.Core.Laws as Co′
 use Rattle.lookup.specs.Walks.{lent, Finds}
 use Rattle.run.specs.declared.progress.Progress.{Progress}
 use Rattle.run.specs.declared.Ran.{Ran}
-use Rattle.run.specs.Runs.{Begun, Ready, Advances, answer}
+use Rattle.run.specs.Runs.{Begun, Ready, Advances, answer, runBytes}
 use Rattle.run.proofs.progress.Progress as Pg
 use Rattle.run.proofs.progress.Progress.Laws as Pg′
 use Rattle.run.proofs.Ran as Rn
@@ -90,7 +89,7 @@ use Rattle.label_run.proofs.execute_program.Code as code
 use Rattle.label_run.proofs.execute_program.Code.Mir as body
 
 abbrev stayed : Stays (exec′.ended .signature .params) (exec′.ended .kept)
-stayed = (stay-none-slice (0 ∷ []) tt (plain (λ _. u8)) yes, (stay-none-slice (1 ∷ []) tt (plain (λ _. u64)) yes, (stay-none-slice (2 ∷ []) tt (plain (λ _. T′.the-row)) yes, (stay-none (λ _. usize) yes, (stay-none (λ _. Mc.the-row) yes, (stay-none (λ _. u64) yes, (stay-slice (3 ∷ []) tt (plain (λ _. u64)), tt)))))))
+stayed = (stay-none-slice (0 ∷ []) tt (plain (λ _. u8)) yes, (stay-none-slice (1 ∷ []) tt (plain (λ _. u8)) yes, (stay-none-slice (2 ∷ []) tt (plain (λ _. T′.the-row)) yes, (stay-none (λ _. usize) yes, (stay-none (λ _. Mc.the-row) yes, (stay-none (λ _. u64) yes, (stay-slice (3 ∷ []) tt (plain (λ _. u8)), tt)))))))
 
 abbrev cv : Core → Val
 cv c = LL.val Co.the-type Co′.the-laws c
@@ -124,16 +123,16 @@ abbrev bytes : Ty
 bytes = sliceTy (tyRef (named 0) imm (tyInt w8))
 
 abbrev words : Ty
-words = sliceTy (tyRef (named 1) imm (tyInt w64))
+words = sliceTy (tyRef (named 1) imm (tyInt w8))
 
 abbrev slice : Ty
 slice = sliceTy (tyRef (named 2) imm (pointee (T′.the-row .written)))
 
 abbrev cells : Ty
-cells = sliceTy (tyRef (named 3) mut (tyInt w64))
+cells = sliceTy (tyRef (named 3) mut (tyInt w8))
 
 abbrev thin : Ty
-thin = tyRef erased mut (tyInt w64)
+thin = tyRef erased mut (tyInt w8)
 
 module _ {M : Type 1} (𝓤 : URA M) (H : Heap 𝓤) (A : Atoms 𝓤) (mem : Memory → SProp 𝓤) (run : Routine → Fun 𝓤) where
   -- the contracts that the proof cites
@@ -198,22 +197,22 @@ module _ {M : Type 1} (𝓤 : URA M) (H : Heap 𝓤) (A : Atoms 𝓤) (W : Given
   Image = ShrSlice (named 0) κ₀ u8 .own im (gv ∷ [])
 
   abbrev Insts : Fml
-  Insts = ShrSlice (named 1) κ₁ u64 .own ins (iv ∷ [])
+  Insts = ShrSlice (named 1) κ₁ u8 .own ins (iv ∷ [])
 
   abbrev Labels : Fml
   Labels = ShrSlice (named 2) κ₂ T′.the-row .own lab (lv ∷ [])
 
   abbrev Dumps : List ℕ → Val → Fml
-  Dumps d u = MutSlice (named 3) κ₃ u64 .own (x γ d) (u ∷ [])
+  Dumps d u = MutSlice (named 3) κ₃ u8 .own (x γ d) (u ∷ [])
 
   -- the buffer lent for the lifetime ν, under the name δ
   abbrev Lent-dumps : ℕ → GName → List ℕ → Fml
-  Lent-dumps ν δ d = MutSlice (named 7) (ν ∷ []) u64 .own (x δ d) (sv d ∷ [])
+  Lent-dumps ν δ d = MutSlice (named 7) (ν ∷ []) u8 .own (x δ d) (sv d ∷ [])
 
   abbrev At-exit : Ran → List ℕ → List (Item 𝓤)
   At-exit r d = ‵ (Rn.the-row .own r (rv r ∷ [])) ∷ ‵ (Dumps d (sv d)) ∷ ‵ (flft κ₃ q₃) ∷ ‵ Image ∷ ‵ (flft κ₀ q₀) ∷ ‵ Insts ∷ ‵ (flft κ₁ q₁) ∷ ‵ Labels ∷ ‵ (flft κ₂ q₂) ∷ []
 
-  exits : (r : Ran) (d : List ℕ) → c < 2 ^ 64 → limit < 2 ^ 64 → Is Mc.the-row m (mv ∷ []) → length d ≡ length d₀ → answer r d ≡ definition.run (program (im .now) (ins .now) ys c limit m d₀) limit d₀ m → ent 𝓤 (⋆ 𝓤 H A (At-exit r d)) (Post (rv r))
+  exits : (r : Ran) (d : List ℕ) → c < 2 ^ 64 → limit < 2 ^ 64 → Is Mc.the-row m (mv ∷ []) → length d ≡ length d₀ → answer r d ≡ runBytes (program (im .now) (ins .now) ys c limit m d₀) limit d₀ m → ent 𝓤 (⋆ 𝓤 H A (At-exit r d)) (Post (rv r))
   exits r d fc fl is-m long is-run =
       qed W (At-exit r d) ∵
       suffices ! _ (ends-at 𝓤 H A exec′.ended stayed (exec′.clauses 𝓤 H A mem run) W (((κ₀, (κ₁, (κ₂, (κ₃, tt)))), (q₀, (q₁, (q₂, (q₃, tt)))), tt, a, vs), tt) (rv r) r (tt, (tt, (tt, (tt, (tt, (tt, (d, tt))))))) (tt, (tt, (tt, (tt, (tt, (tt, (long, tt)))))))) $
@@ -271,10 +270,10 @@ module _ {M : Type 1} (𝓤 : URA M) (H : Heap 𝓤) (A : Atoms 𝓤) (W : Given
   goes-begin : c < 2 ^ 64 → limit < 2 ^ 64 → Is Mc.the-row m (mv ∷ []) → ent 𝓤 (⋆ 𝓤 H A From-begin) (⋆ 𝓤 H A (raw (Begin 𝓤 H A mem run .pre to-begin) ∷ ‵ Insts ∷ []))
   goes-begin fc fl is-m =
       let fm = LL.owed Mc.the-type Mc′.the-laws m _ is-m in
-      qed W From-begin ∵ move ! (1 ∷ []) $ use1 W (‵ Insts ⊛ ‵ Insts) (shr-slice-copy 𝓤 H A W (named 1) κ₁ u64 .twice ins (iv ∷ [])) $ split ! $
+      qed W From-begin ∵ move ! (1 ∷ []) $ use1 W (‵ Insts ⊛ ‵ Insts) (shr-slice-copy 𝓤 H A W (named 1) κ₁ u8 .twice ins (iv ∷ [])) $ split ! $
       nothing ! $ owned ! u64 (Is u64) (uint-makes 𝓤 H A W w64) limit _ (refl, fl) $ fjoin ! $ owned ! bool (Is bool) (bool-makes 𝓤 H A W) (m .halted) _ refl $ fjoin ! $ owned ! u8 (Is u8) (uint-makes 𝓤 H A W w8) (m .flags) _ (fm .1 .1 .1 .1 .1 .0) $ fjoin ! $ owned ! Co.the-row (Is Co.the-row) (LL.makes Co.the-type Co′.the-plain 𝓤 H A) (core m) _ (is-core m is-m) $ fjoin ! $ owned ! usize (Is usize) (uint-makes 𝓤 H A W w64) c _ (refl, fc) $ fjoin ! $ move ! (1 ∷ 0 ∷ []) $ fjoin ! $
       nothing ! $ move ! (3 ∷ 0 ∷ []) $ join ! $
-      use2 W (raw (Begin 𝓤 H A mem run .pre to-begin)) (qed W ((‵ (flft κ₁ q₁) ⊛ ‵ ftrue) ∷ ‵ (owns (ShrSlice (named 0) κ₁ u64 ∷ usize ∷ Co.the-row ∷ u8 ∷ bool ∷ u64 ∷ []) args-begin sent-begin) ∷ []) ∵ join ! $ frame ! $ done !) $ frame ! $ done !
+      use2 W (raw (Begin 𝓤 H A mem run .pre to-begin)) (qed W ((‵ (flft κ₁ q₁) ⊛ ‵ ftrue) ∷ ‵ (owns (ShrSlice (named 0) κ₁ u8 ∷ usize ∷ Co.the-row ∷ u8 ∷ bool ∷ u64 ∷ []) args-begin sent-begin) ∷ []) ∵ join ! $ frame ! $ done !) $ frame ! $ done !
 
   abbrev Begun′ : Progress → Type 0
   Begun′ r = Begun (ins .now) c (core m) (m .flags) (m .halted) limit r
@@ -299,7 +298,7 @@ module _ {M : Type 1} (𝓤 : URA M) (H : Heap 𝓤) (A : Atoms 𝓤) (W : Given
   said-pack : (o : Progress) (stack calls memory : List ℕ) (r : Ran) → ent 𝓤 (ensured 𝓤 H A pack.ended (pack.clauses 𝓤 H A mem run) tt (args-pack o stack calls memory) tt r) (fact 𝓤 (r ≡ packed limit o stack calls memory))
   said-pack o stack calls memory r = exE 𝓤 _ (λ ws. snd∗ 𝓤 (sem 𝓤 H A (lasts pack.ended tt (args-pack o stack calls memory) ws)) (fact 𝓤 (r ≡ packed limit o stack calls memory)))
 
-  module _ (𝓣 : Tables 𝓤 H) (knows : Knows 𝓤 H A mem run 𝓣) (gg : Room u8 (length (im .now))) (gd : Room u64 (length d₀)) (fc : c < 2 ^ 64) (fl : limit < 2 ^ 64) (is-m : Is Mc.the-row m (mv ∷ [])) (l₀ l₁ l₂ l₃ l₄ l₅ l₆ l₇ l₈ l₉ l₁₀ l₁₁ l₁₂ l₁₃ l₁₄ l₁₅ l₁₆ l₁₇ l₁₈ l₁₉ l₂₀ l₂₁ l₂₂ l₂₃ l₂₄ l₂₅ l₂₆ : ℕ) where
+  module _ (𝓣 : Tables 𝓤 H) (knows : Knows 𝓤 H A mem run 𝓣) (gg : Room u8 (length (im .now))) (gd : Room u8 (length d₀)) (fc : c < 2 ^ 64) (fl : limit < 2 ^ 64) (is-m : Is Mc.the-row m (mv ∷ [])) (l₀ l₁ l₂ l₃ l₄ l₅ l₆ l₇ l₈ l₉ l₁₀ l₁₁ l₁₂ l₁₃ l₁₄ l₁₅ l₁₆ l₁₇ l₁₈ l₁₉ l₂₀ l₂₁ l₂₂ l₂₃ l₂₄ l₂₅ l₂₆ : ℕ) where
     abbrev C : Calls 𝓤 H
     C = 𝓣 .C
 
@@ -365,16 +364,16 @@ module _ {M : Type 1} (𝓤 : URA M) (H : Heap 𝓤) (A : Atoms 𝓤) (W : Given
     goes-steps : (ν₀ ν₁ ν₂ ν₃ ν₄ ν₅ : ℕ) (δ₀ δ₁ δ₂ δ₃ δ₄ δ₅ : GName) (d : List ℕ) (o : Progress) (r : ℕ) (stack calls memory keys targets : List ℕ) → Is Pg.the-row o (ov o ∷ []) → r < 2 ^ 64 → Ready (ins .now) c o d keys targets
         → ent 𝓤 (⋆ 𝓤 H A (From-steps ν₀ ν₁ ν₂ ν₃ ν₄ ν₅ δ₀ δ₁ δ₂ δ₃ δ₄ δ₅ d stack calls memory keys targets)) (⋆ 𝓤 H A (To-steps ν₀ ν₁ ν₂ ν₃ ν₄ ν₅ δ₀ δ₁ δ₂ δ₃ δ₄ δ₅ d o r stack calls memory keys targets))
     goes-steps ν₀ ν₁ ν₂ ν₃ ν₄ ν₅ δ₀ δ₁ δ₂ δ₃ δ₄ δ₅ d o r stack calls memory keys targets is fr at-hand =
-        qed W (From-steps ν₀ ν₁ ν₂ ν₃ ν₄ ν₅ δ₀ δ₁ δ₂ δ₃ δ₄ δ₅ d stack calls memory keys targets) ∵ move ! (3 ∷ []) $ use1 W (‵ Insts ⊛ ‵ Insts) (shr-slice-copy 𝓤 H A W (named 1) κ₁ u64 .twice ins (iv ∷ [])) $ split ! $ move ! (3 ∷ []) $ use1 W (‵ Image ⊛ ‵ Image) (shr-slice-copy 𝓤 H A W (named 0) κ₀ u8 .twice im (gv ∷ [])) $ split ! $
+        qed W (From-steps ν₀ ν₁ ν₂ ν₃ ν₄ ν₅ δ₀ δ₁ δ₂ δ₃ δ₄ δ₅ d stack calls memory keys targets) ∵ move ! (3 ∷ []) $ use1 W (‵ Insts ⊛ ‵ Insts) (shr-slice-copy 𝓤 H A W (named 1) κ₁ u8 .twice ins (iv ∷ [])) $ split ! $ move ! (3 ∷ []) $ use1 W (‵ Image ⊛ ‵ Image) (shr-slice-copy 𝓤 H A W (named 0) κ₀ u8 .twice im (gv ∷ [])) $ split ! $
         nothing ! $ move ! (18 ∷ 0 ∷ []) $ fjoin ! $ move ! (16 ∷ 0 ∷ []) $ fjoin ! $ move ! (14 ∷ 0 ∷ []) $ fjoin ! $ move ! (12 ∷ 0 ∷ []) $ fjoin ! $ move ! (10 ∷ 0 ∷ []) $ fjoin ! $ move ! (8 ∷ 0 ∷ []) $ fjoin ! $ owned ! u64 (Is u64) (uint-makes 𝓤 H A W w64) r _ (refl, fr) $ fjoin ! $ owned ! Pg.the-row (Is Pg.the-row) (LL.makes Pg.the-type Pg′.the-plain 𝓤 H A) o _ is $ fjoin ! $ owned ! usize (Is usize) (uint-makes 𝓤 H A W w64) c _ (refl, fc) $ fjoin ! $ move ! (3 ∷ 0 ∷ []) $ fjoin ! $ move ! (1 ∷ 0 ∷ []) $ fjoin ! $
         nothing ! $ move ! (11 ∷ 0 ∷ []) $ join ! $ move ! (10 ∷ 0 ∷ []) $ join ! $ move ! (9 ∷ 0 ∷ []) $ join ! $ move ! (8 ∷ 0 ∷ []) $ join ! $ move ! (7 ∷ 0 ∷ []) $ join ! $ move ! (6 ∷ 0 ∷ []) $ join ! $ move ! (5 ∷ 0 ∷ []) $ join ! $ move ! (4 ∷ 0 ∷ []) $ join ! $
-        use2 W (raw (Steps 𝓤 H A mem run .pre (to-steps ν₀ ν₁ ν₂ ν₃ ν₄ ν₅ δ₀ δ₁ δ₂ δ₃ δ₄ δ₅ d o r stack calls memory keys targets))) (qed W (Tokens ν₀ ν₁ ν₂ ν₃ ν₄ ν₅ ∷ ‵ (owns (ShrSlice (named 0) κ₀ u8 ∷ ShrSlice (named 1) κ₁ u64 ∷ usize ∷ Pg.the-row ∷ u64 ∷ MutRef (named 2) (ν₀ ∷ []) (Numbers w64 1024) ∷ MutRef (named 3) (ν₁ ∷ []) (Numbers w64 1024) ∷ MutRef (named 4) (ν₂ ∷ []) (Numbers w8 1024) ∷ MutRef (named 5) (ν₃ ∷ []) (Numbers w8 4096) ∷ MutRef (named 6) (ν₄ ∷ []) (Numbers w16 4096) ∷ MutSlice (named 7) (ν₅ ∷ []) u64 ∷ []) (args-steps δ₀ δ₁ δ₂ δ₃ δ₄ δ₅ d o r stack calls memory keys targets) (sent-steps d o r)) ∷ []) ∵ says ! at-hand $ frame ! $ done !) $ frame ! $ frame ! $ done !
+        use2 W (raw (Steps 𝓤 H A mem run .pre (to-steps ν₀ ν₁ ν₂ ν₃ ν₄ ν₅ δ₀ δ₁ δ₂ δ₃ δ₄ δ₅ d o r stack calls memory keys targets))) (qed W (Tokens ν₀ ν₁ ν₂ ν₃ ν₄ ν₅ ∷ ‵ (owns (ShrSlice (named 0) κ₀ u8 ∷ ShrSlice (named 1) κ₁ u8 ∷ usize ∷ Pg.the-row ∷ u64 ∷ MutRef (named 2) (ν₀ ∷ []) (Numbers w64 1024) ∷ MutRef (named 3) (ν₁ ∷ []) (Numbers w64 1024) ∷ MutRef (named 4) (ν₂ ∷ []) (Numbers w8 1024) ∷ MutRef (named 5) (ν₃ ∷ []) (Numbers w8 4096) ∷ MutRef (named 6) (ν₄ ∷ []) (Numbers w16 4096) ∷ MutSlice (named 7) (ν₅ ∷ []) u8 ∷ []) (args-steps δ₀ δ₁ δ₂ δ₃ δ₄ δ₅ d o r stack calls memory keys targets) (sent-steps d o r)) ∷ []) ∵ says ! at-hand $ frame ! $ done !) $ frame ! $ frame ! $ done !
 
     abbrev Lasts : Type 0
     Lasts = Unit {0} × (Unit {0} × (Unit {0} × (Unit {0} × (Unit {0} × (List ℕ × (List ℕ × (List ℕ × (List ℕ × (List ℕ × (List ℕ × Unit {0}))))))))))
 
-    room-at : (t : St) → Room u64 (length (t .0 .dumps))
-    room-at t = subst (Room u64) (sym (t .0 .long)) gd
+    room-at : (t : St) → Room u8 (length (t .0 .dumps))
+    room-at t = subst (Room u8) (sym (t .0 .long)) gd
 
     -- the loop is left: pack(stack, calls, memory, o, limit)
     ends : (t : St) → t .0 .o .on ≡ false → Sq W (I t) (runs C Λ E body.t-9 (atRet E Post))
@@ -431,7 +430,7 @@ module _ {M : Type 1} (𝓤 : URA M) (H : Heap 𝓤) (A : Atoms 𝓤) (W : Given
         move ! (48 ∷ []) $ use1 W (later (some (λ (δ₂ : GName). ‵ (Lent₂ ν₂ δ₂ memory) ⊛ ‵ (Lender w8 1024 (ν₂ ∷ []) l₁₁ δ₂)))) (lends-array w8 1024 𝓤 H A W (named 4) (ν₂ ∷ []) l₁₁ memory (t .4)) $ await ! tt $ pick ! (λ δ₂. split ! $
         move ! (48 ∷ []) $ use1 W (later (some (λ (δ₃ : GName). ‵ (Lent₃ ν₃ δ₃ keys) ⊛ ‵ (Lender w8 4096 (ν₃ ∷ []) l₁₂ δ₃)))) (lends-array w8 4096 𝓤 H A W (named 5) (ν₃ ∷ []) l₁₂ keys (t .5)) $ await ! tt $ pick ! (λ δ₃. split ! $
         move ! (48 ∷ []) $ use1 W (later (some (λ (δ₄ : GName). ‵ (Lent₄ ν₄ δ₄ targets) ⊛ ‵ (Lender w16 4096 (ν₄ ∷ []) l₁₃ δ₄)))) (lends-array w16 4096 𝓤 H A W (named 6) (ν₄ ∷ []) l₁₃ targets (t .6)) $ await ! tt $ pick ! (λ δ₄. split ! $
-        move ! (20 ∷ 21 ∷ []) $ use2 W (later (some (λ (δ₅ : GName). ‵ (Lent-dumps ν₅ δ₅ d) ⊛ ‵ (LentAgain u64 κ₃ (ν₅ ∷ []) q₃ γ b e δ₅ d)))) (lends-again u64 κ₃ (ν₅ ∷ []) q₃ γ b e 𝓤 H A W (named 3) (named 7) d) $ await ! tt $ pick ! (λ δ₅. split ! $
+        move ! (20 ∷ 21 ∷ []) $ use2 W (later (some (λ (δ₅ : GName). ‵ (Lent-dumps ν₅ δ₅ d) ⊛ ‵ (LentAgain u8 κ₃ (ν₅ ∷ []) q₃ γ b e δ₅ d)))) (lends-again u8 κ₃ (ν₅ ∷ []) q₃ γ b e 𝓤 H A W (named 3) (named 7) d) $ await ! tt $ pick ! (λ δ₅. split ! $
         move ! (19 ∷ 20 ∷ 23 ∷ 22 ∷ 12 ∷ 10 ∷ 13 ∷ 8 ∷ 14 ∷ 6 ∷ 15 ∷ 4 ∷ 16 ∷ 2 ∷ 17 ∷ 0 ∷ []) $ cut (From-steps ν₀ ν₁ ν₂ ν₃ ν₄ ν₅ δ₀ δ₁ δ₂ δ₃ δ₄ δ₅ d stack calls memory keys targets) (To-steps ν₀ ν₁ ν₂ ν₃ ν₄ ν₅ δ₀ δ₁ δ₂ δ₃ δ₄ δ₅ d o r stack calls memory keys targets) _ (goes-steps ν₀ ν₁ ν₂ ν₃ ν₄ ν₅ δ₀ δ₁ δ₂ δ₃ δ₄ δ₅ d o r stack calls memory keys targets (t .1) (isr .1) (is-ready (im .now) (ins .now) ys c limit m d₀ (t .0) on)) $
         calls-at-last ! (fmOf 𝓤 H (W .laws) 𝓣) (Steps 𝓤 H A mem run) (knows .steps-on) (to-steps ν₀ ν₁ ν₂ ν₃ ν₄ ν₅ δ₀ δ₁ δ₂ δ₃ δ₄ δ₅ d o r stack calls memory keys targets) (and-then ! (load ! (from ! (stop !)) (look ! 56 refl)) (and-then ! (load ! (from ! (stop !)) (look ! 54 refl)) (and-then ! (load ! (from ! (stop !)) (look ! 50 refl)) (and-then ! (load ! (from ! (stop !)) (look ! 35 refl)) (and-then ! (load ! (from ! (stop !)) (look ! 33 refl)) (and-then ! (load ! (from ! (stop !)) (look ! 29 refl)) (and-then ! (load ! (from ! (stop !)) (look ! 27 refl)) (and-then ! (load ! (from ! (stop !)) (look ! 25 refl)) (and-then ! (load ! (from ! (stop !)) (look ! 23 refl)) (and-then ! (load ! (from ! (stop !)) (look ! 21 refl)) (and-then ! (load ! (from ! (stop !)) (look ! 17 refl)) (no-more !)))))))))))) (λ v′.
         use1 W (later (some (λ (z : Progress). (Tokens ν₀ ν₁ ν₂ ν₃ ν₄ ν₅ ⊛ ‵ (Pg.the-row .own z (v′ ∷ []))) ⊛ raw (ensured 𝓤 H A steps.ended (steps.clauses 𝓤 H A mem run) (Lfts-steps ν₀ ν₁ ν₂ ν₃ ν₄ ν₅) (args-steps δ₀ δ₁ δ₂ δ₃ δ₄ δ₅ d o r stack calls memory keys targets) tt z)))) (id⊢ 𝓤 _) $ await ! tt $ pick ! (λ z.
@@ -447,7 +446,7 @@ module _ {M : Type 1} (𝓤 : URA M) (H : Heap 𝓤) (A : Atoms 𝓤) (W : Given
         move ! (5 ∷ []) $ lft-end ! tt $ move ! (0 ∷ 18 ∷ 12 ∷ []) $ use3 W (later (‵ (Cell w8 1024 l₁₁ (ws .1 .1 .1 .1 .1 .1 .1 .0)) ⊛ ‵ (Owned w8 1024 (ws .1 .1 .1 .1 .1 .1 .1 .0)))) (array-back w8 1024 𝓤 H A W (ν₂ ∷ []) l₁₁ δ₂ (ws .1 .1 .1 .1 .1 .1 .1 .0)) $ await ! tt $ split ! $ move ! (1 ∷ []) $ facts ! (Numbers w8 1024) (Is (Numbers w8 1024)) (shows 𝓤 H A (Numbers w8 1024)) (ws .1 .1 .1 .1 .1 .1 .1 .0) _ (λ is₂.
         move ! (5 ∷ []) $ lft-end ! tt $ move ! (0 ∷ 16 ∷ 11 ∷ []) $ use3 W (later (‵ (Cell w8 4096 l₁₂ (ws .1 .1 .1 .1 .1 .1 .1 .1 .0)) ⊛ ‵ (Owned w8 4096 (ws .1 .1 .1 .1 .1 .1 .1 .1 .0)))) (array-back w8 4096 𝓤 H A W (ν₃ ∷ []) l₁₂ δ₃ (ws .1 .1 .1 .1 .1 .1 .1 .1 .0)) $ await ! tt $ split ! $ move ! (1 ∷ []) $ facts ! (Numbers w8 4096) (Is (Numbers w8 4096)) (shows 𝓤 H A (Numbers w8 4096)) (ws .1 .1 .1 .1 .1 .1 .1 .1 .0) _ (λ is₃.
         move ! (5 ∷ []) $ lft-end ! tt $ move ! (0 ∷ 14 ∷ 10 ∷ []) $ use3 W (later (‵ (Cell w16 4096 l₁₃ (ws .1 .1 .1 .1 .1 .1 .1 .1 .1 .0)) ⊛ ‵ (Owned w16 4096 (ws .1 .1 .1 .1 .1 .1 .1 .1 .1 .0)))) (array-back w16 4096 𝓤 H A W (ν₄ ∷ []) l₁₃ δ₄ (ws .1 .1 .1 .1 .1 .1 .1 .1 .1 .0)) $ await ! tt $ split ! $ move ! (1 ∷ []) $ facts ! (Numbers w16 4096) (Is (Numbers w16 4096)) (shows 𝓤 H A (Numbers w16 4096)) (ws .1 .1 .1 .1 .1 .1 .1 .1 .1 .0) _ (λ is₄.
-        move ! (5 ∷ []) $ lft-end ! tt $ move ! (0 ∷ 12 ∷ 9 ∷ []) $ use3 W (later (‵ (Dumps (ws .1 .1 .1 .1 .1 .1 .1 .1 .1 .1 .0) (sv d)) ⊛ ‵ (flft κ₃ q₃))) (comes-back u64 κ₃ (ν₅ ∷ []) q₃ γ b e 𝓤 H A W (named 3) (named 7) d δ₅ (ws .1 .1 .1 .1 .1 .1 .1 .1 .1 .1 .0) room el) $ await ! tt $ split ! $
+        move ! (5 ∷ []) $ lft-end ! tt $ move ! (0 ∷ 12 ∷ 9 ∷ []) $ use3 W (later (‵ (Dumps (ws .1 .1 .1 .1 .1 .1 .1 .1 .1 .1 .0) (sv d)) ⊛ ‵ (flft κ₃ q₃))) (comes-back u8 κ₃ (ν₅ ∷ []) q₃ γ b e 𝓤 H A W (named 3) (named 7) d δ₅ (ws .1 .1 .1 .1 .1 .1 .1 .1 .1 .1 .0) room el) $ await ! tt $ split ! $
         move ! (9 ∷ []) $ peeks ! Pg.the-row (Is Pg.the-row) (shows 𝓤 H A Pg.the-row) z (v′ ∷ []) (λ isz.
         land-last ! (from ! (stop !)) (store ! 38 refl (LL.lawful Pg.the-type Pg′.the-laws 𝓤 H A W .typed z _ isz .0)) $ rewrite ! 38 (λ (u : Val). ‵ (fat fullShare Pg′.mir l₁₄ 0 u)) (ap only (LL.tells Pg.the-type Pg′.the-laws z _ isz)) refl $
         drop ! $ move ! (0 ∷ 1 ∷ 9 ∷ 8 ∷ 10 ∷ 7 ∷ 12 ∷ 11 ∷ 13 ∷ 14 ∷ 15 ∷ 16 ∷ 17 ∷ 18 ∷ 19 ∷ 20 ∷ 21 ∷ 22 ∷ 23 ∷ 24 ∷ 25 ∷ 26 ∷ 27 ∷ 28 ∷ 29 ∷ 30 ∷ 31 ∷ 32 ∷ 33 ∷ 34 ∷ 35 ∷ 36 ∷ 37 ∷ 38 ∷ 2 ∷ 39 ∷ 3 ∷ 40 ∷ 4 ∷ 41 ∷ 5 ∷ 42 ∷ []) $
@@ -487,10 +486,10 @@ module _ {M : Type 1} (𝓤 : URA M) (H : Heap 𝓤) (A : Atoms 𝓤) (W : Given
         turns (starts (im .now) (ins .now) ys c limit m d₀ (gg .0) r led, is-own r v isr, subst (Fit w64 1024) (same-is (m .stack)) (fm .0), subst (Fit w64 1024) (same-is (m .calls)) (fm .1 .1 .0), subst (Fit w8 1024) (same-is (m .memory)) (fm .1 .1 .1 .1 .0), is₃, is₄)))))
 
   module _ (𝓣 : Tables 𝓤 H) (knows : Knows 𝓤 H A mem run 𝓣) where
-    walk : Room u8 (length (im .now)) → Room u64 (length (ins .now)) → Room T′.the-row (length ys) → c < 2 ^ 64 → Is Mc.the-row m (mv ∷ []) → limit < 2 ^ 64 → Room u64 (length d₀)
+    walk : Room u8 (length (im .now)) → Room u8 (length (ins .now)) → Room T′.the-row (length ys) → c < 2 ^ 64 → Is Mc.the-row m (mv ∷ []) → limit < 2 ^ 64 → Room u8 (length d₀)
         → ent 𝓤 (onEntry 𝓤 H A exec′.signature (κ₀, (κ₁, (κ₂, (κ₃, tt)))) (q₀, (q₁, (q₂, (q₃, tt)))) a vs) (WpFn 𝓤 H (𝓣 .C) (𝓣 .Λ) code.function (gv ∷ iv ∷ lv ∷ vint w64 c ∷ mv ∷ vint w64 limit ∷ sv d₀ ∷ []) Post)
     walk gg gi gl fc is-m fl gd =
-        qed W ((‵ (flft κ₀ q₀) ⊛ ‵ (flft κ₁ q₁) ⊛ ‵ (flft κ₂ q₂) ⊛ ‵ (flft κ₃ q₃) ⊛ ‵ ftrue) ∷ ‵ (owns (ShrSlice (named 0) κ₀ u8 ∷ ShrSlice (named 1) κ₁ u64 ∷ ShrSlice (named 2) κ₂ T′.the-row ∷ usize ∷ Mc.the-row ∷ u64 ∷ MutSlice (named 3) κ₃ u64 ∷ []) a vs) ∷ []) ∵
+        qed W ((‵ (flft κ₀ q₀) ⊛ ‵ (flft κ₁ q₁) ⊛ ‵ (flft κ₂ q₂) ⊛ ‵ (flft κ₃ q₃) ⊛ ‵ ftrue) ∷ ‵ (owns (ShrSlice (named 0) κ₀ u8 ∷ ShrSlice (named 1) κ₁ u8 ∷ ShrSlice (named 2) κ₂ T′.the-row ∷ usize ∷ Mc.the-row ∷ u64 ∷ MutSlice (named 3) κ₃ u8 ∷ []) a vs) ∷ []) ∵
         owned ! (UInt w8) (Is (UInt w8)) (uint-makes 𝓤 H A W w8) 255 (vint w8 255 ∷ []) (refl, omega arith) $ use1 W (‵ (Owned w8 4096 (replicate 4096 255))) (array-repeat 𝓤 H A W (UInt w8) (uint-copy 𝓤 H A W w8) 4096 255 (vint w8 255)) $
         facts ! (Numbers w8 4096) (Is (Numbers w8 4096)) (shows 𝓤 H A (Numbers w8 4096)) (replicate 4096 255) _ (λ is₃.
         owned ! (UInt w16) (Is (UInt w16)) (uint-makes 𝓤 H A W w16) 0 (vint w16 0 ∷ []) (refl, omega arith) $ use1 W (‵ (Owned w16 4096 (replicate 4096 0))) (array-repeat 𝓤 H A W (UInt w16) (uint-copy 𝓤 H A W w16) 4096 0 (vint w16 0)) $
@@ -504,7 +503,7 @@ module _ {M : Type 1} (𝓤 : URA M) (H : Heap 𝓤) (A : Atoms 𝓤) (W : Given
 module _ {M : Type 1} (𝓤 : URA M) (H : Heap 𝓤) (A : Atoms 𝓤) (W : Given 𝓤 H A) (mem : Memory → SProp 𝓤) (run : Routine → Fun 𝓤) where
   exec-walks : (𝓣 : Tables 𝓤 H) → Knows 𝓤 H A mem run 𝓣 → Walks 𝓤 H A exec′.ended stayed (WpFn 𝓤 H (𝓣 .C) (𝓣 .Λ) code.function) (exec′.clauses 𝓤 H A mem run)
   exec-walks 𝓣 knows = walked 𝓤 H A exec′.ended stayed (exec′.clauses 𝓤 H A mem run) (WpFn 𝓤 H (𝓣 .C) (𝓣 .Λ) code.function) (λ κs. (slice-vals, (slice-vals, (slice-vals, (uint-vals w64, (LL.vals Mc.the-type Mc′.the-laws, (uint-vals w64, (slice-vals, tt))))))))
-      (λ κs. (shr-slice-tells (named 0) (κs .0) u8, (shr-slice-tells (named 1) (κs .1 .0) u64, (shr-slice-tells (named 2) (κs .1 .1 .0) T′.the-row, (uint-tells w64, (LL.tells Mc.the-type Mc′.the-laws, (uint-tells w64, (mut-slice-tells (named 3) (κs .1 .1 .1 .0) u64, tt))))))))
+      (λ κs. (shr-slice-tells (named 0) (κs .0) u8, (shr-slice-tells (named 1) (κs .1 .0) u8, (shr-slice-tells (named 2) (κs .1 .1 .0) T′.the-row, (uint-tells w64, (LL.tells Mc.the-type Mc′.the-laws, (uint-tells w64, (mut-slice-tells (named 3) (κs .1 .1 .1 .0) u8, tt))))))))
       (λ κs qs bounds a g are. via 𝓤 _ (fst∗ 𝓤 _ (emp 𝓤))
       (walk 𝓤 H A W mem run (κs .0) (κs .1 .0) (κs .1 .1 .0) (κs .1 .1 .1 .0) (qs .0) (qs .1 .0) (qs .1 .1 .0) (qs .1 .1 .1 .0) (a .0) (a .1 .0) (a .1 .1 .0) (a .1 .1 .1 .0) (a .1 .1 .1 .1 .0) (a .1 .1 .1 .1 .1 .0) (a .1 .1 .1 .1 .1 .1 .0 .ptr .0) (a .1 .1 .1 .1 .1 .1 .0 .ptr .1) (a .1 .1 .1 .1 .1 .1 .0 .name) (a .1 .1 .1 .1 .1 .1 .0 .now) 𝓣 knows
       (are .0 .0 .1) (are .1 .0 .0 .1) (are .1 .1 .0 .0 .1) (are .1 .1 .1 .0 .1) (are .1 .1 .1 .1 .0) (are .1 .1 .1 .1 .1 .0 .1) (are .1 .1 .1 .1 .1 .1 .0 .0 .1)))
@@ -512,7 +511,7 @@ module _ {M : Type 1} (𝓤 : URA M) (H : Heap 𝓤) (A : Atoms 𝓤) (W : Given
 exec-meets : {M : Type 1} (𝓤 : URA M) (H : Heap 𝓤) (A : Atoms 𝓤) → Given 𝓤 H A → (mem : Memory → SProp 𝓤) (run : Routine → Fun 𝓤) (𝓣 : Tables 𝓤 H)
     → Knows 𝓤 H A mem run 𝓣 → Meets 𝓤 H A exec′.signature (WpFn 𝓤 H (𝓣 .C) (𝓣 .Λ) code.function) (exec′.spec 𝓤 H A mem run)
 exec-meets 𝓤 H A W mem run 𝓣 knows =
-    walk-meets 𝓤 H A exec′.ended stayed W (goes-none-slice 𝓤 H A W 4 (0 ∷ []) tt (plain (λ _. u8)) yes, (goes-none-slice 𝓤 H A W 4 (1 ∷ []) tt (plain (λ _. u64)) yes, (goes-none-slice 𝓤 H A W 4 (2 ∷ []) tt (plain (λ _. T′.the-row)) yes, (goes-none 𝓤 H A W 4 (λ _. usize) yes (λ κs x f. refl), (goes-none 𝓤 H A W 4 (λ _. Mc.the-row) yes (λ κs x f. refl), (goes-none 𝓤 H A W 4 (λ _. u64) yes (λ κs x f. refl), (goes-slice 𝓤 H A W 4 3 tt (plain (λ _. u64)), tt))))))) (exec′.clauses 𝓤 H A mem run)
+    walk-meets 𝓤 H A exec′.ended stayed W (goes-none-slice 𝓤 H A W 4 (0 ∷ []) tt (plain (λ _. u8)) yes, (goes-none-slice 𝓤 H A W 4 (1 ∷ []) tt (plain (λ _. u8)) yes, (goes-none-slice 𝓤 H A W 4 (2 ∷ []) tt (plain (λ _. T′.the-row)) yes, (goes-none 𝓤 H A W 4 (λ _. usize) yes (λ κs x f. refl), (goes-none 𝓤 H A W 4 (λ _. Mc.the-row) yes (λ κs x f. refl), (goes-none 𝓤 H A W 4 (λ _. u64) yes (λ κs x f. refl), (goes-slice 𝓤 H A W 4 3 tt (plain (λ _. u8)), tt))))))) (exec′.clauses 𝓤 H A mem run)
     (WpFn 𝓤 H (𝓣 .C) (𝓣 .Λ) code.function) (WpFn-mono 𝓤 H (W .laws) 𝓣 code.function) (exec-walks 𝓤 H A W mem run 𝓣 knows)
 
 pub execute-program-spec : {M : Type 1} → stated.statement M

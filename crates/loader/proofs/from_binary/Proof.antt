@@ -3,7 +3,7 @@ use native.Mathlib.Omega.{arith}
 use lib.ListN.{length}
 use borrow.Author.Needs.{needs}
 use Rattle.loader.specs.Filling.{left}
-use Rattle.loader.proofs.LentNumbers.{Underway, underway-begins, underway-on, underway-ends}
+use Rattle.loader.proofs.LentBytes.{Underway, underway-begins, underway-on, underway-ends}
 use Rattle.loader.proofs.from_binary.Statement.{statement}
 use Rattle.loader.proofs.from_binary.Tie as tie
 

@@ -8,14 +8,14 @@ use borrow.Author.Needs.{needs}
 use Rattle.quick.proofs.execute_known.Statement.{statement}
 use Rattle.quick.proofs.execute_known.Tie as tie
 
-shared-slice-read-swap : tie.Need-shared-slice-read-swap
-shared-slice-read-swap c = omega (arith, c .before .before .before .before .pre .2 (λ e. omega (arith, sym (c .before .before .match .keys10) ∙ e)))
+number-at-requires : tie.Need-number-at-requires
+number-at-requires c κs = omega (arith, c .before .before .before .pre .2 (λ e. omega (arith, sym (c .before .match .keys10) ∙ e)))
 
-shared-slice-read-dup : tie.Need-shared-slice-read-dup
-shared-slice-read-dup c = omega (arith, c .before .before .before .before .pre .2 (λ e. omega (arith, sym (c .before .before .match .keys11) ∙ e)))
+number-at-requires-2 : tie.Need-number-at-requires-2
+number-at-requires-2 c κs = omega (arith, c .before .before .before .pre .2 (λ e. omega (arith, sym (c .before .match .keys11) ∙ e)))
 
-shared-slice-read-push : tie.Need-shared-slice-read-push
-shared-slice-read-push c = omega (arith, c .before .before .before .before .pre .2 (λ e. omega (arith, sym (c .before .before .match .keys45) ∙ e)))
+number-at-requires-3 : tie.Need-number-at-requires-3
+number-at-requires-3 c κs = omega (arith, c .before .before .before .pre .2 (λ e. omega (arith, sym (c .before .match .keys45) ∙ e)))
 
 returns : tie.Need-returns
 unfolding exec opOf stepAt
@@ -55,11 +55,11 @@ returns-9 c found start len finds = as-is (at found _ start len _ _ 9 (c .before
 
 returns-10 : tie.Need-returns-10
 unfolding exec opOf stepAt
-returns-10 c found start len finds = as-is (at found _ start len _ _ 10 (c .before .before .before .before .match .keys10)) (quickly _ (c .before .swap .ensures _ _) (c .success9 .ensures))
+returns-10 c found start len finds = rw (← (c .before .before .number-at .ensures)) (as-is (at found _ start len _ _ 10 (c .before .before .before .before .match .keys10)) (quickly _ (c .before .swap .ensures _ _) (c .success9 .ensures)))
 
 returns-11 : tie.Need-returns-11
 unfolding exec opOf stepAt
-returns-11 c found start len finds = as-is (at found _ start len _ _ 11 (c .before .before .before .before .match .keys11)) (quickly _ (c .before .dup .ensures _ _) (c .success10 .ensures))
+returns-11 c found start len finds = rw (← (c .before .before .number-at2 .ensures)) (as-is (at found _ start len _ _ 11 (c .before .before .before .before .match .keys11)) (quickly _ (c .before .dup .ensures _ _) (c .success10 .ensures)))
 
 returns-12 : tie.Need-returns-12
 unfolding exec opOf stepAt
@@ -195,7 +195,7 @@ returns-44 c found start len finds = as-is (at found _ start len _ _ 45 (c .befo
 
 returns-45 : tie.Need-returns-45
 unfolding exec opOf stepAt
-returns-45 c found start len finds = as-is (at found _ start len _ _ 1 (c .before .before .before .before .match .keys45)) (quickly _ (c .before .push .ensures _ _) (c .success31 .ensures))
+returns-45 c found start len finds = rw (← (c .before .before .number-at3 .ensures)) (as-is (at found _ start len _ _ 1 (c .before .before .before .before .match .keys45)) (quickly _ (c .before .push .ensures _ _) (c .success31 .ensures)))
 
 returns-46 : tie.Need-returns-46
 returns-46 c found start len finds = record { holds = (refl, refl, refl) }
@@ -223,14 +223,12 @@ execute-known-spec =
     (λ c κs. search needs)
     (λ c. search needs)
     (λ c. search needs)
-    (λ c. search needs)
-    shared-slice-read-swap
+    number-at-requires
     (λ c κs. search needs)
     (λ c κs. search needs)
     (λ c. search needs)
     (λ c. search needs)
-    (λ c. search needs)
-    shared-slice-read-dup
+    number-at-requires-2
     (λ c κs. search needs)
     (λ c κs. search needs)
     (λ c κs. search needs)
@@ -288,8 +286,7 @@ execute-known-spec =
     (λ c κs. search needs)
     (λ c. search needs)
     (λ c. search needs)
-    (λ c. search needs)
-    shared-slice-read-push
+    number-at-requires-3
     (λ c κs. search needs)
     (λ c κs. search needs)
     returns

@@ -3,18 +3,19 @@ use mathlib.Core.Path.{_≡_, refl, sym, _∙_}
 use mathlib.Core.Bool.{true, false}
 use native.Mathlib.Omega.{arith}
 use lib.ListN.{length}
-use lib.Seq.{length-take-le}
 use borrow.Author.Needs.{needs}
 use Rattle.run.specs.Runs.{answer}
+use Rattle.run.proofs.Cells.{cells, in-cells}
 use Rattle.session.specs.Session.{isFull}
-use Rattle.tables.specs.Tables.{program}
-use Rattle.session.proofs.Printing.{Printing, begins, weight, Turned, turned, room-at-end, ends}
+use Rattle.tables.specs.Tables.{numbersIn, program}
+use Rattle.tables.proofs.Bytes.{length-numbers-in}
+use Rattle.session.proofs.Printing.{Printing, begins, weight, Turned, turned, room-at-end, ends, sixty-four, same-bytes}
 use Rattle.session.proofs.print_runs.Statement.{statement}
 use Rattle.session.proofs.print_runs.Tie as tie
 
 abbrev Inv-loop : tie.InvT-loop
 Inv-loop image insts labels count text₀ dumps₀ machine₀ ending₀ steps₀ at₀ text dumps machine ending steps at =
-    (length dumps ≡ 64) × Printing (program image insts labels count) machine₀ text₀ text machine ending steps at
+    (length dumps ≡ 512) × Printing (program image insts labels count) machine₀ text₀ text machine ending steps at
 
 abbrev μ-loop : tie.MeasureT-loop
 μ-loop image insts labels count text₀ dumps₀ machine₀ ending₀ steps₀ at₀ text dumps machine ending steps at =
@@ -31,20 +32,20 @@ over-is c = sym (c .before .is-full .ensures) ∙ c .if1 .left
 ran : (c : tie.After-execute-program Inv-loop μ-loop)
     → Turned (program (c .before .before .before .before .before .before .before .before .args .image .now) (c .before .before .before .before .before .before .before .before .args .insts .now) (c .before .before .before .before .before .before .before .before .args .labels .now) (c .before .before .before .before .before .before .before .before .args .count)) (c .before .before .before .before .before .before .before .before .args .m)
     (c .before .before .before .before .before .before .before .before .args .text .now) (c .before .before .before .before .loop .text) (c .before .before .before .before .loop .ending) (c .before .before .before .before .loop .steps) (c .before .before .before .before .loop .at)
-    (answer (c .execute-program .result) (c .execute-program .last .1 .1 .1 .1 .1 .1 .0))
-ran c = turned (c .before .before .before .before .loop .inv .1) (full-is (c .before .before)) _ (c .before .before .before .before .loop .inv .0) _ (c .execute-program .ensures)
+    (cells (answer (c .execute-program .result) (c .execute-program .last .1 .1 .1 .1 .1 .1 .0)))
+ran c = turned (c .before .before .before .before .loop .inv .1) (full-is (c .before .before)) (numbersIn (c .before .before .before .before .loop .dumps)) (sixty-four (c .before .before .before .before .loop .dumps) (c .before .before .before .before .loop .inv .0)) _ (in-cells _ _ _ _ _ (c .execute-program .ensures))
+
+long : (c : tie.After-execute-program Inv-loop μ-loop) → length (c .execute-program .last .1 .1 .1 .1 .1 .1 .0) ≡ 512
+long c = same-bytes _ _ (c .before .before .before .before .loop .dumps) _ (answer (c .execute-program .result) (c .execute-program .last .1 .1 .1 .1 .1 .1 .0)) (c .execute-program .ensures) ∙ c .before .before .before .before .loop .inv .0
 
 loop-holds : tie.Need-loop-holds Inv-loop μ-loop
 loop-holds c = (refl, begins _ _ _)
 
-array-share-prefix-dumps : tie.Need-array-share-prefix-dumps Inv-loop μ-loop
-array-share-prefix-dumps c = ran (c .before .before) .fits
-
 slice-aggregate-put-cell-lines : tie.Need-slice-aggregate-put-cell-lines Inv-loop μ-loop
-slice-aggregate-put-cell-lines c = sym (length-take-le _ _ (ran (c .before .before .before) .fits))
+slice-aggregate-put-cell-lines c = sym (long (c .before .before .before))
 
 put-cell-lines-requires : tie.Need-put-cell-lines-requires Inv-loop μ-loop
-put-cell-lines-requires c κs = ran (c .before .before .before) .room (c .before .put-cell-lines-arg .given .0 .1)
+put-cell-lines-requires c κs = (omega (arith, ran (c .before .before .before) .fits, length-numbers-in (c .before .before .before .execute-program .last .1 .1 .1 .1 .1 .1 .0)), ran (c .before .before .before) .room (c .before .put-cell-lines-arg .given .0 .1))
 
 add-steps : tie.Need-add-steps Inv-loop μ-loop
 add-steps c = record { fits = omega (arith, ran (c .before .before .before .before .before) .fewer, c .before .before .before .before .before .before .before .before .before .loop .inv .1 .within) }
@@ -53,7 +54,7 @@ loop-less : tie.Need-loop-less Inv-loop μ-loop
 loop-less c = ran (c .before .before .before .before .before .before) .falls
 
 loop-again : tie.Need-loop-again Inv-loop μ-loop
-loop-again c = (ran (c .before .before .before .before .before .before) .same-room, ran (c .before .before .before .before .before .before) .goes (c .before .before .put-cell-lines .ensures))
+loop-again c = (long (c .before .before .before .before .before .before), ran (c .before .before .before .before .before .before) .goes (c .before .before .put-cell-lines .ensures))
 
 put-end-line-requires : tie.Need-put-end-line-requires Inv-loop μ-loop
 put-end-line-requires c κs = room-at-end (c .before .before .before .loop .inv .1) (over-is (c .before)) (c .put-end-line-arg .given .0 .1)
@@ -72,7 +73,6 @@ print-runs-spec =
     (λ c. search needs)
     (λ c. search needs)
     (λ c κs. search needs)
-    array-share-prefix-dumps
     slice-aggregate-put-cell-lines
     put-cell-lines-requires
     add-steps

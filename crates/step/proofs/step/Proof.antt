@@ -7,9 +7,9 @@ use mathlib.Core.Path.{refl, sym, _∙_}
 use mathlib.Core.List.{[]}
 use Rattle.inst.proofs.Facts.{typ-byte}
 use Rattle.inst.proofs.Laws.{never}
-use Rattle.machine.specs.Lookup.{noLabel}
+use Rattle.machine.specs.Lookup.{noLabel, lookup}
 use Rattle.known.specs.Known.{instOf, KnownAt}
-use Rattle.tables.specs.Tables.{instsOf}
+use Rattle.tables.specs.Tables.{numberAt, instsOf}
 use Rattle.lookup.specs.Walks.{lent}
 use Rattle.known.proofs.Keeping.{plain-formed, plain-no-lookup, learns-sized, learns, keeps-jump-sized, keeps-jump}
 use Rattle.step.proofs.Whole.{found-target, name-lies, known-at, step-past, step-unformed, made-found, made-acts}
@@ -26,10 +26,10 @@ returns-2 c = record { small = tt; sized = c .before .before .before .before .be
 returns-3 : tie.Need-returns-3
 returns-3 c =
     let formed = sym (c .before .before .before .before .before .before .before .is-well-formed-at .ensures) ∙ not-false _ (c .before .before .before .before .before .before .if2 .left) in
-    record { small = tt; sized = c .before .before .before .before .before .before .before .before .before .before .before .pre .1 .2; listed = c .before .before .before .before .before .before .before .before .before .before .before .pre .1 .3; tried = λ labels told. (c .before .before .if4 .taken, name-lies _ (c .before .before .before .before .before .before .before .before .before .before .before .args .insts .now) (c .before .before .before .before .before .before .before .before .before .before .before .args .core .ip) formed (sym (c .before .before .before .before .looks-up .ensures) ∙ c .before .before .before .if3 .taken), (refl, refl), refl, refl, refl, refl, refl) }
+    record { small = tt; sized = c .before .before .before .before .before .before .before .before .before .before .before .pre .1 .2; listed = c .before .before .before .before .before .before .before .before .before .before .before .pre .1 .3; tried = λ labels told. (c .before .before .if4 .taken, rw (c .before .number-at2 .ensures, c .number-at3 .ensures) (name-lies _ (c .before .before .before .before .before .before .before .before .before .before .before .args .insts .now) (c .before .before .before .before .before .before .before .before .before .before .before .args .core .ip) formed (rw (← (c .before .before .before .before .before .number-at .ensures)) (sym (c .before .before .before .before .looks-up .ensures) ∙ c .before .before .before .if3 .taken))), (sym (c .before .number-at2 .ensures), sym (c .number-at3 .ensures)), refl, refl, refl, refl, refl) }
 
 keep-jump-requires : tie.Need-keep-jump-requires
-keep-jump-requires c κs = omega (arith, typ-byte _ (instOf (c .before .before .before .before .before .before .before .before .before .before .before .args .insts .now) (c .before .before .before .before .before .before .before .before .before .before .before .args .core .ip)) (sym (c .before .before .before .before .before .before .before .is-well-formed-at .ensures) ∙ not-false _ (c .before .before .before .before .before .before .if2 .left)))
+keep-jump-requires c κs = omega (arith, c .before .before .before .before .before .number-at .ensures, typ-byte _ (instOf (c .before .before .before .before .before .before .before .before .before .before .before .args .insts .now) (c .before .before .before .before .before .before .before .before .before .before .before .args .core .ip)) (sym (c .before .before .before .before .before .before .before .is-well-formed-at .ensures) ∙ not-false _ (c .before .before .before .before .before .before .if2 .left)))
 
 execute-jump-requires : tie.Need-execute-jump-requires
 execute-jump-requires c κs = ((c .before .before .before .before .before .before .before .before .before .before .before .before .before .pre .1 .0 .0, c .before .before .before .before .before .before .before .before .before .before .before .before .before .pre .1 .0 .1, search needs), omega (arith, c .before .before .before .before .if4 .left), sym (c .before .before .before .before .before .before .looks-up .ensures) ∙ c .before .before .before .before .before .if3 .taken)
@@ -45,14 +45,14 @@ returns-4 c =
     let formed = sym (c .before .before .before .before .before .before .before .before .before .before .is-well-formed-at .ensures) ∙ not-false _ (c .before .before .before .before .before .before .before .before .before .if2 .left) in
     let xs = c .before .before .before .before .before .before .before .before .before .before .before .before .before .before .args .insts .now in
     let ip = c .before .before .before .before .before .before .before .before .before .before .before .before .before .before .args .core .ip in
-    let kept = c .before .before .keep-jump .ensures in
+    let kept = rw (c .before .before .before .before .before .before .before .before .number-at .ensures) at (c .before .before .keep-jump .ensures) in
     let below = c .before .before .before .before .before .before .before .before .before .before .before .if1 .left in
     record {
       small = c .execute-jump .ensures 0 0 0 [] [] .small;
       sized = keeps-jump-sized (c .before .before .before .before .before .before .before .before .before .before .before .before .before .before .pre .1 .2) kept;
-      listed = keeps-jump (c .before .before .before .before .before .before .before .before .before .before .before .before .before .before .pre .1 .2) kept (λ (key t i : ℕ). i * 4 + 3 < length xs) (c .before .before .before .before .before .before .before .before .before .before .before .before .before .before .pre .1 .3) (λ h. omega (arith, below, c .before .before .before .before .before .before .before .before .before .before .before .before .before .before .pre .1 .1));
+      listed = keeps-jump (c .before .before .before .before .before .before .before .before .before .before .before .before .before .before .pre .1 .2) kept (λ (key t i : ℕ). i * 32 + 31 < length xs) (c .before .before .before .before .before .before .before .before .before .before .before .before .before .before .pre .1 .3) (λ h. omega (arith, below, c .before .before .before .before .before .before .before .before .before .before .before .before .before .before .pre .1 .1));
       tried = λ labels told. let finds = told (omega (arith, c .before .before .before .before .before .if4 .left)) in (
-        made-found _ xs labels (c .before .before .before .before .before .before .before .before .before .before .before .before .before .before .args .count) (c .before .before .before .before .before .before .before .before .before .before .before .before .before .before .pre .1 .1) _ _ _ _ _ (c .before .before .before .before .before .before .before .before .before .before .before .before .before .before .pre .1 .0) below formed _ _ _ _ _ finds (c .execute-jump .ensures (getD xs (ip * 4 + 1) 0) (getD xs (ip * 4 + 2) 0) (getD xs (ip * 4 + 3) 0) _ _),
+        made-found _ xs labels (c .before .before .before .before .before .before .before .before .before .before .before .before .before .before .args .count) (c .before .before .before .before .before .before .before .before .before .before .before .before .before .before .pre .1 .1) _ _ _ _ _ (c .before .before .before .before .before .before .before .before .before .before .before .before .before .before .pre .1 .0) below formed _ _ _ _ _ finds (rw (c .before .before .before .before .before .before .before .before .number-at .ensures) at (c .execute-jump .ensures (numberAt xs (ip * 4 + 1)) (numberAt xs (ip * 4 + 2)) (numberAt xs (ip * 4 + 3)) (c .before .before .before .before .before .before .before .before .before .before .before .before .before .before .args .stack .now) (c .before .before .before .before .before .before .before .before .before .before .before .before .before .before .args .memory .now))),
         λ k. keeps-jump (c .before .before .before .before .before .before .before .before .before .before .before .before .before .before .pre .1 .2) kept (KnownAt (lent (c .before .before .before .before .before .before .before .before .before .before .before .before .before .before .args .image .now) (instsOf xs) labels (c .before .before .before .before .before .before .before .before .before .before .before .before .before .before .args .count)) xs) k (λ h. known-at _ xs labels _ (c .before .before .before .before .before .before .before .before .before .before .before .before .before .before .pre .1 .1) ip below formed _ (λ l. sym finds ∙ found-target _ h)),
       );
     }
@@ -69,9 +69,9 @@ returns-5 c =
     record {
       small = c .execute-instruction .ensures noLabel 0 0 .small;
       sized = learns-sized targets learnt (c .before .before .before .before .before .before .before .before .before .before .before .before .before .before .before .pre .1 .2);
-      listed = learns targets learnt (λ (key t i : ℕ). i * 4 + 3 < length xs) (c .before .before .before .before .before .before .before .before .before .before .before .before .before .before .before .pre .1 .3) (λ i t h. omega (arith, h .below, c .before .before .before .before .before .before .before .before .before .before .before .before .before .before .before .pre .1 .1));
+      listed = learns targets learnt (λ (key t i : ℕ). i * 32 + 31 < length xs) (c .before .before .before .before .before .before .before .before .before .before .before .before .before .before .before .pre .1 .3) (λ i t h. omega (arith, h .below, c .before .before .before .before .before .before .before .before .before .before .before .before .before .before .before .pre .1 .1));
       tried = λ labels told. (
-        made-acts _ xs labels (c .before .before .before .before .before .before .before .before .before .before .before .before .before .before .before .args .count) (c .before .before .before .before .before .before .before .before .before .before .before .before .before .before .before .pre .1 .1) _ _ _ _ _ (c .before .before .before .before .before .before .before .before .before .before .before .before .before .before .before .pre .1 .0) below formed _ _ _ _ (c .execute-instruction .ensures _ (getD xs (ip * 4 + 2) 0) (getD xs (ip * 4 + 3) 0)),
+        made-acts _ xs labels (c .before .before .before .before .before .before .before .before .before .before .before .before .before .before .before .args .count) (c .before .before .before .before .before .before .before .before .before .before .before .before .before .before .before .pre .1 .1) _ _ _ _ _ (c .before .before .before .before .before .before .before .before .before .before .before .before .before .before .before .pre .1 .0) below formed _ _ _ _ (rw (c .before .before .before .before .before .before .before .before .before .number-at .ensures, c .before .before .before .before .number-at4 .ensures) at (c .execute-instruction .ensures (lookup (lent image (instsOf xs) labels (c .before .before .before .before .before .before .before .before .before .before .before .before .before .before .before .args .count)) (instOf xs ip)) (numberAt xs (ip * 4 + 2)) (numberAt xs (ip * 4 + 3)))),
         λ k. learns targets learnt (KnownAt (lent image (instsOf xs) labels (c .before .before .before .before .before .before .before .before .before .before .before .before .before .before .before .args .count)) xs) k (λ i t h. known-at image xs labels _ (c .before .before .before .before .before .before .before .before .before .before .before .before .before .before .before .pre .1 .1) i (h .below) (plain-formed image xs i (h .plain)) t (λ l. never (sym (plain-no-lookup image xs i (h .plain)) ∙ l))),
       );
     }
@@ -84,25 +84,21 @@ step-spec =
     (λ c κs. search needs)
     returns-2
     (λ c. search needs)
+    (λ c κs. search needs)
+    (λ c κs. search needs)
     (λ c. search needs)
     (λ c. search needs)
     (λ c κs. search needs)
     (λ c. search needs)
     (λ c. search needs)
-    (λ c. search needs)
-    (λ c. search needs)
-    (λ c. search needs)
-    (λ c. search needs)
-    (λ c. search needs)
-    (λ c. search needs)
+    (λ c κs. search needs)
     returns-3
     keep-jump-requires
     execute-jump-requires
     learn-requires
     (λ c. search needs)
     (λ c. search needs)
-    (λ c. search needs)
-    (λ c. search needs)
+    (λ c κs. search needs)
     execute-instruction-requires
     returns-4
     returns-5)

@@ -1,6 +1,6 @@
 -- `trace::digest_at` meets its contract. Assumes nothing.
 use borrow.Author.Needs.{needs}
-use Rattle.tables.proofs.Laws.{record-at}
+use Rattle.tables.proofs.Numbers.{record-at}
 use Rattle.trace.specs.Digests.{word}
 use Rattle.trace.proofs.digest_at.Statement.{statement}
 use Rattle.trace.proofs.digest_at.Tie as tie

@@ -2,7 +2,7 @@
 use mathlib.Core.Path.{sym}
 use borrow.Author.Needs.{needs}
 use borrow.Author.Tests.{eq-eqb, ne-eqb}
-use Rattle.tables.proofs.Laws.{length-records}
+use Rattle.tables.proofs.Numbers.{length-records}
 use Rattle.trace.specs.Digests.{word}
 use Rattle.trace.proofs.Replaying.{refused-is, accepted-is}
 use Rattle.trace.proofs.replay_image.Statement.{statement}

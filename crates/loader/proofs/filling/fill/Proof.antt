@@ -4,7 +4,7 @@ use mathlib.Core.Path.{_≡_, refl, _∙_}
 use native.Mathlib.Omega.{arith}
 use lib.ListN.{length}
 use borrow.Author.Needs.{needs}
-use Rattle.tables.specs.Tables.{instNumbers}
+use Rattle.tables.specs.Tables.{bytesOf, instNumbers}
 use Rattle.loader.proofs.Rests.{further}
 use Rattle.loader.proofs.Stores.{put-long}
 use Rattle.loader.proofs.Fillings.{Leads, leads-begin, leads-more, fills-end, fills-never, fills-label}
@@ -33,7 +33,7 @@ put-requires c κs =
     omega (arith, f .one-more, f .insts-fit, c .before .before .before .before .before .before .before .before .loop .inv .0)
 
 same-length-2 : tie.Need-same-length-2 Inv-loop μ-loop
-same-length-2 c = put-long (c .before .before .before .before .before .before .before .before .before .before .before .before .before .before .loop .insts) _ (instNumbers (c .before .before .before .before .before .before .before .before .did .given .0 .1 .0)) (c .before .before .before .before .before .before .before .before .before .before .before .before .before .before .loop .c .insts * 4) (c .before .before .before .before .before .put .ensures) ∙ c .before .before .before .before .before .before .before .before .before .before .before .before .before .before .loop .inv .0
+same-length-2 c = put-long (c .before .before .before .before .before .before .before .before .before .before .before .before .before .before .loop .insts) _ (bytesOf (instNumbers (c .before .before .before .before .before .before .before .before .did .given .0 .1 .0))) (c .before .before .before .before .before .before .before .before .before .before .before .before .before .before .loop .c .insts * 32) (c .before .before .before .before .before .put .ensures) ∙ c .before .before .before .before .before .before .before .before .before .before .before .before .before .before .loop .inv .0
 
 returns-2 : tie.Need-returns-2 Inv-loop μ-loop
 returns-2 c =
@@ -48,7 +48,7 @@ loop-less c =
 loop-again : tie.Need-loop-again Inv-loop μ-loop
 loop-again c =
     let f = further _ _ _ _ _ (c .before .before .before .before .before .before .before .before .before .next-inst .ensures .1) (c .before .before .before .before .before .before .before .did .given .1) in (
-      put-long (c .before .before .before .before .before .before .before .before .before .before .before .before .before .loop .insts) _ (instNumbers (c .before .before .before .before .before .before .before .did .given .0 .1 .0)) (c .before .before .before .before .before .before .before .before .before .before .before .before .before .loop .c .insts * 4) (c .before .before .before .before .put .ensures) ∙ c .before .before .before .before .before .before .before .before .before .before .before .before .before .loop .inv .0,
+      put-long (c .before .before .before .before .before .before .before .before .before .before .before .before .before .loop .insts) _ (bytesOf (instNumbers (c .before .before .before .before .before .before .before .did .given .0 .1 .0))) (c .before .before .before .before .before .before .before .before .before .before .before .before .before .loop .c .insts * 32) (c .before .before .before .before .put .ensures) ∙ c .before .before .before .before .before .before .before .before .before .before .before .before .before .loop .inv .0,
       omega (arith, f .moves, c .before .before .before .before .before .before .before .before .before .before .before .before .before .loop .inv .1),
       leads-more _ _ _ _ _ (c .before .before .before .before .before .before .before .before .before .before .before .before .before .loop .inv .2) (c .before .before .before .before .before .before .before .before .before .before .before .if1 .taken) _ (c .before .before .before .before .before .before .before .before .before .next-inst .ensures .0) _ _ (c .before .before .before .before .before .before .before .did .given .1) f _ (c .before .before .before .before .put .ensures) (c .if2 .left),
     )

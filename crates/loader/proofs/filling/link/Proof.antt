@@ -6,7 +6,7 @@ use Rattle.loader.proofs.filling.link.Tie as tie
 
 returns : tie.Need-returns
 unfolding linkedAt
-returns c = rw (← (c .before .before .before .before .before .before .put .ensures)) (c .before .before .put2 .ensures)
+returns c = rw (← (c .before .before .before .before .before .before .before .before .number-at .ensures), ← (c .before .before .before .before .before .before .put .ensures)) (c .before .before .put2 .ensures)
 
 pub link-spec : {M : Type 1} → statement M
-link-spec = tie.close (tie.spec (λ c. search needs) (λ c κs. search needs) (λ c κs. search needs) (λ c. search needs) returns)
+link-spec = tie.close (tie.spec (λ c κs. search needs) (λ c κs. search needs) (λ c κs. search needs) (λ c. search needs) returns)

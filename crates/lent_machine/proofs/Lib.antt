@@ -1,2 +1,0 @@
-mod Copies
-pub mod Sizes

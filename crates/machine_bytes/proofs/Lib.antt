@@ -1,0 +1,3 @@
+mod Copies
+mod Fields
+pub mod Back

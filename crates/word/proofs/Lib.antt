@@ -1,0 +1,2 @@
+mod Ors
+pub mod Laws

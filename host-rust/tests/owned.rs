@@ -1,0 +1,203 @@
+// The owning layer: programs and machines in memory of their own.
+mod images;
+
+use images::{image, int, named, push, three_dumps};
+use mm_host::layout::{CALL_HEIGHT_AT, HALTED_AT, HEIGHT_AT, MACHINE_SIZE, POINTER_AT};
+use mm_host::{Ending, Machine, NotAMachine, Program, Refusal, Trap};
+
+fn load(image: Vec<u8>) -> Program {
+    Program::load(image).expect("it loads")
+}
+
+#[test]
+fn each_refusal_of_a_load() {
+    let refused = [
+        (image(&[vec![0; 16_370]]), Refusal::ImageTooLong),
+        (image(&[vec![47]]), Refusal::UndefinedByte),
+        (image(&[vec![1, 0, 0]]), Refusal::PastEnd),
+        (image(&[named(21, "\u{e9}")]), Refusal::NameByte),
+        (image(&[vec![0; 4_095]]), Refusal::TooManyInstructions),
+        (image(&[named(21, "").repeat(512)]), Refusal::TooManyLabels),
+        (named(21, "start"), Refusal::NoStart),
+        (image(&[named(37, "x")]), Refusal::Native),
+    ];
+    for (image, refusal) in refused {
+        assert_eq!(Program::load(image), Err(refusal));
+    }
+    assert_eq!(load(image(&[vec![0; 4_094]])).count(), 4_096);
+}
+
+#[test]
+fn each_trap_of_a_run() {
+    let trapped = [
+        (vec![vec![2]], Trap::StackUnderflow, 1),
+        (vec![push(int(1)).repeat(1_025)], Trap::StackOverflow, 1_025),
+        (vec![vec![29]], Trap::NoOpenCall, 1),
+        (vec![named(28, "_start")], Trap::CallStackFull, 1),
+        (vec![push(int(1)), push(int(0)), vec![8]], Trap::DivisionByZero, 3),
+        (vec![push(int(1_024)), push(int(1)), vec![39]], Trap::AddressPastMemory, 3),
+        (vec![named(20, "gone")], Trap::NoSuchLabel, 1),
+        (vec![named(28, "gone")], Trap::NoSuchFunction, 1),
+        (vec![push(int(1)), vec![31]], Trap::WrongType, 2),
+        (vec![push(int(1) | 1 << 63), vec![34]], Trap::NegativeConversion, 2),
+        (vec![push(int(1)), push(1.0f64.to_bits()), vec![5]], Trap::NotBothI64, 3),
+        (vec![push(0x7FF8_0000_0000_0000), vec![31]], Trap::UnknownType, 2),
+        (vec![push(int(1)), vec![46, 3]], Trap::NoSuchStream, 2),
+    ];
+    assert_eq!(trapped.len(), Trap::ALL.len());
+    for (rest, trap, at) in trapped {
+        let program = load(image(&rest));
+        let mut machine = program.machine();
+        let ending = machine.run(&program, 10_000, &mut [0; 4]).ending;
+        assert_eq!((ending, machine.pointer(), machine.halted()), (Ending::Trap(trap), at, false));
+    }
+}
+
+#[test]
+fn a_run_goes_on_after_limit_full_buffer_and_trap() {
+    let program = load(three_dumps());
+    let mut machine = program.machine();
+    let mut dumps = [1, 2];
+    let ran = machine.run(&program, 3, &mut dumps);
+    assert_eq!((ran.ending, ran.steps, ran.dumped), (Ending::Limit, 3, [int(5)].as_slice()));
+    assert_eq!(dumps, [int(5), 2]);
+    let ran = machine.run(&program, 100, &mut dumps[1..]);
+    assert_eq!((ran.ending, ran.steps, ran.dumped), (Ending::BufferFull, 1, [int(5)].as_slice()));
+    for _ in 0..2 {
+        let ran = machine.run(&program, 100, &mut []);
+        assert_eq!((ran.ending, ran.steps, ran.dumped), (Ending::BufferFull, 0, [].as_slice()));
+    }
+    let ran = machine.run(&program, 100, &mut dumps);
+    assert_eq!((ran.ending, ran.steps, ran.dumped.len()), (Ending::Trap(Trap::StackUnderflow), 3, 1));
+    let ran = machine.run(&program, 100, &mut []);
+    assert_eq!((ran.ending, ran.steps, machine.pointer()), (Ending::Trap(Trap::StackUnderflow), 1, 6));
+}
+
+#[test]
+fn pieces_are_one_run() {
+    let program = load(image(&[push(int(0)), named(21, "l"), vec![3, 46, 2], push(int(99)), vec![9], named(17, "l")]));
+    let (mut whole, mut all) = (program.machine(), [0; 100]);
+    let one = whole.run(&program, 10_000, &mut all);
+    assert_eq!((one.ending, one.dumped.len()), (Ending::Halted, 99));
+    for limit in 1..20 {
+        let (mut machine, mut steps, mut cells) = (program.machine(), 0, Vec::new());
+        let mut dumps = [0; 3];
+        while !machine.halted() {
+            let ran = machine.run(&program, limit, &mut dumps);
+            steps += ran.steps;
+            cells.extend_from_slice(ran.dumped);
+        }
+        assert_eq!((steps, cells.as_slice()), (one.steps, one.dumped));
+        assert_eq!(machine, whole);
+    }
+}
+
+#[test]
+fn what_a_machine_holds() {
+    let write = [push(int(3)), push(int(300)), vec![39]];
+    let rest = [write.concat(), push(int(6)), push(int(7)), push(int(8)), vec![9], named(28, "f"), vec![69], named(21, "f")];
+    let program = load(image(&rest));
+    let mut machine = program.machine();
+    let ran = machine.run(&program, 9, &mut []);
+    assert_eq!(ran.ending, Ending::Limit);
+    assert_eq!(machine.cells(), [int(6), int(7)]);
+    assert_eq!((machine.cells().last(), machine.cells().get(0), machine.cells().get(2)), (Some(int(7)), Some(int(6)), None));
+    assert_eq!(machine.addresses(), [9]);
+    assert_eq!((machine.memory()[3], machine.memory().len()), (44, 1_024));
+    // 7 is below 8: L, LE, NE and NZ
+    assert_eq!((machine.flags(), machine.pointer(), machine.halted()), (0b1010_0110, 10, false));
+    assert_eq!(format!("{machine:?}"), "Machine { pointer: 10, height: 2, calls: 1, halted: false, .. }");
+    assert_eq!(format!("{program:?}"), format!("Program {{ image_len: {}, count: 12, .. }}", program.image().len()));
+}
+
+#[test]
+fn a_program_gives_the_same_fresh_machine_again() {
+    let program = load(three_dumps());
+    let mut machine = program.machine();
+    let fresh = machine.clone();
+    let _ = machine.run(&program, 2, &mut []);
+    assert_ne!(machine, fresh);
+    assert_eq!(program.machine(), fresh);
+    assert!(fresh.as_bytes().iter().all(|&byte| byte == 0));
+    let twice_started = load(image(&[vec![0], named(21, "_start")]));
+    assert_eq!(twice_started.machine().pointer(), 2);
+}
+
+#[test]
+fn what_is_written_out_loads_again() {
+    let image = image(&[push(int(5)), vec![27, 1]]);
+    let program = load(image.clone());
+    let out = program.encode();
+    // HALT was appended, and 27 was read as 46
+    assert_eq!((&out[..24], &out[24..]), (&image[..24], [46, 1, 69].as_slice()));
+    let again = load(out.clone());
+    assert_eq!((again.count(), again.encode()), (program.count(), out.clone()));
+    let mut room = vec![9; out.len() + 2];
+    assert_eq!(program.encode_into(&mut room[..out.len() - 1]), Err(Refusal::NoRoom));
+    assert!(room.iter().all(|&byte| byte == 9));
+    assert_eq!(program.encode_into(&mut room).map(|written| &*written), Ok(out.as_slice()));
+    assert_eq!(room[out.len()..], [9, 9]);
+}
+
+#[test]
+fn a_stored_machine_runs_on() {
+    let program = load(three_dumps());
+    let mut machine = program.machine();
+    let _ = machine.run(&program, 3, &mut [0; 1]);
+    let mut again = Machine::from_bytes(machine.as_bytes()).expect("it was a machine");
+    assert_eq!(again, machine);
+    let (mut a, mut b) = ([0; 4], [0; 4]);
+    assert_eq!(again.run(&program, 100, &mut a), machine.run(&program, 100, &mut b));
+    assert_eq!(again, machine);
+}
+
+#[test]
+fn bytes_that_are_no_machine() {
+    let bytes = [0; MACHINE_SIZE + 1];
+    assert_eq!(Machine::from_bytes(&bytes), Err(NotAMachine::Length(17_435)));
+    assert_eq!(Machine::from_bytes(&bytes[2..]), Err(NotAMachine::Length(17_433)));
+    assert_eq!(Machine::from_bytes(&[]), Err(NotAMachine::Length(0)));
+    let mut bytes = [0; MACHINE_SIZE];
+    for halted in [2, 255] {
+        bytes[HALTED_AT] = halted;
+        assert_eq!(Machine::from_bytes(&bytes), Err(NotAMachine::Halted(halted)));
+    }
+}
+
+#[test]
+fn a_state_that_no_run_leaves_is_34() {
+    let program = load(image(&[]));
+    for (at, number) in [(HEIGHT_AT, 1_025), (CALL_HEIGHT_AT, u64::MAX), (POINTER_AT, 2)] {
+        let mut bytes = *program.machine().as_bytes();
+        bytes[at..at + 8].copy_from_slice(&u64::to_le_bytes(number));
+        let mut machine = Machine::from_bytes(&bytes).expect("length and halted are a machine's");
+        let ran = machine.run(&program, 5, &mut []);
+        assert_eq!((ran.ending, ran.steps), (Ending::IllState, 0));
+        assert_eq!(machine.as_bytes(), &bytes);
+        // the views stay within the machine
+        assert!(machine.cells().len() <= 1_024 && machine.addresses().len() <= 1_024);
+    }
+}
+
+#[test]
+fn another_programs_machine_is_answered() {
+    let (long, short) = (load(image(&[vec![0; 50]])), load(image(&[])));
+    let mut machine = long.machine();
+    let _ = machine.run(&long, 20, &mut []);
+    assert_eq!(machine.run(&short, 5, &mut []).ending, Ending::IllState);
+}
+
+#[test]
+fn threads_share_a_program() {
+    let program = load(three_dumps());
+    let ends: Vec<Machine> = std::thread::scope(|scope| {
+        let one = || {
+            let mut machine = program.machine();
+            let _ = machine.run(&program, 100, &mut [0; 8]);
+            machine
+        };
+        let started: Vec<_> = (0..4).map(|_| scope.spawn(one)).collect();
+        started.into_iter().map(|thread| thread.join().expect("it ends")).collect()
+    });
+    assert!(ends.iter().all(|machine| machine.pointer() == 6 && machine == &ends[0]));
+}
