@@ -89,7 +89,7 @@ pub record Stored (image : List ℕ) (is : List Inst) (count : ℕ) (out₀ out 
   pub gives : sets out at (bytesOfAll image (left is count i)) ≡ sets out₀ 0 (bytesOfAll image (take count is))
 
 module _ (image : List ℕ) (is : List Inst) (count : ℕ) (out₀ out : List ℕ) (at i : ℕ) (s : Stored image is count out₀ out at i) where
-  -- what as_bytes requires of the next record
+  -- what put_inst requires of the next record
   pub stored-well : (r : Inst) → i < count → IsAt is i r → wellFormed image r ≡ true
   unfolding allWellFormed
   stored-well r h e = and-left (wellFormed image r) _ (rw (left-next is count (s .within) i r h e) at (s .well))

@@ -11,8 +11,8 @@ ghost use Rattle.tables.specs.Tables.{instsOf};
 ghost use Rattle.encoder.specs.Encoder.{means, sized, Fits};
 use inst::TABLE_SIZE;
 use inst::form_table;
-use inst_encode::as_bytes;
 use inst_encode::checked_len;
+use inst_encode::put_inst;
 use tables::RECORD;
 use tables::inst_at;
 
@@ -92,7 +92,7 @@ fn write(forms: &[u8; TABLE_SIZE], image: &[u8], insts: &[u8], count: usize, out
     let mut i = 0;
     while i < count {
         let inst = inst_at(insts, i);
-        at += as_bytes(forms, image, inst, out, at);
+        at += put_inst(forms, image, inst, out, at);
         i += 1;
     }
 }

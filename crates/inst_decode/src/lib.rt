@@ -11,10 +11,11 @@ use inst::NONE;
 use inst::ONE;
 use inst::TABLE_SIZE;
 use inst::form;
+use inst::form_table;
 use inst::name_ok;
 use word::word_at;
 
-// What from_bytes finds: a number of document 01 by its case, or a record and its size.
+// What decoding finds: a number of document 01 by its case, or a record and its size.
 pub enum Decoded {
     Undefined,
     PastEnd,
@@ -117,8 +118,8 @@ fn read_named(image: &[u8], at: usize, op: u64) -> Decoded
     read_name(image, at, op, word_at(image, at + 1))
 }
 
-// The instruction at an offset of the image. Only the loader calls it, and lends it the table of forms.
-pub fn from_bytes(forms: &[u8; TABLE_SIZE], image: &[u8], at: usize) -> Decoded
+// from_bytes with the table of forms lent: a load makes it once, not for each instruction. Beside from_bytes only the loader calls it.
+pub fn decode(forms: &[u8; TABLE_SIZE], image: &[u8], at: usize) -> Decoded
     requires { ⌜ now forms ≡ formTable ⌝ }
     ensures { λ r. ⌜ means r ≡ fromBytes (now (image .entry)) at ⌝ }
 {
@@ -141,4 +142,12 @@ pub fn from_bytes(forms: &[u8; TABLE_SIZE], image: &[u8], at: usize) -> Decoded
         NAME => read_named(image, at, op),
         _ => Decoded::Undefined,
     }
+}
+
+// The instruction at an offset of the image.
+pub fn from_bytes(image: &[u8], at: usize) -> Decoded
+    ensures { λ r. ⌜ means r ≡ fromBytes (now (image .entry)) at ⌝ }
+{
+    let forms = form_table();
+    decode(&forms, image, at)
 }

@@ -14,6 +14,7 @@ use inst::NAME;
 use inst::ONE;
 use inst::TABLE_SIZE;
 use inst::form;
+use inst::form_table;
 use inst::has_form;
 
 // The `size` lowest bytes of a number from `at` on, the lowest first.
@@ -73,10 +74,9 @@ pub fn checked_len(forms: &[u8; TABLE_SIZE], image: &[u8], inst: Inst) -> usize
     }
 }
 
-// Writes a record's bytes from `at` on and returns how many they are. The rest of the output stays.
-// Only the encoder calls it, and proves all three: it lends the table of forms, and tests the record, and the room for all before it
-// writes the first.
-pub fn as_bytes(
+// as_bytes with the table of forms lent: the encoder makes it once, not for each record. Beside as_bytes only the encoder calls it,
+// and proves all three: it tests the record, and the room for all before it writes the first.
+pub fn put_inst(
     forms: &[u8; TABLE_SIZE],
     image: &[u8],
     inst: Inst,
@@ -105,4 +105,16 @@ pub fn as_bytes(
         }
         _ => 1,
     }
+}
+
+// Writes a record's bytes from `at` on and returns how many they are. The rest of the output stays.
+// The caller tests the record and the room first (9 and 10 of the encoder).
+pub fn as_bytes(image: &[u8], inst: Inst, out: &mut [u8], at: usize) -> usize
+    requires { ⌜ wellFormed (now image) inst ≡ true ⌝ }
+    requires { ⌜ at + length (asBytes (now image) inst) ≤ length (now out) ⌝ }
+    ensures { λ r. ⌜ r ≡ length (asBytes (now (image .entry)) inst) ⌝ }
+    ensures { λ r. ⌜ now (out .exit) ≡ sets (now (out .entry)) at (asBytes (now (image .entry)) inst) ⌝ }
+{
+    let forms = form_table();
+    put_inst(&forms, image, inst, out, at)
 }

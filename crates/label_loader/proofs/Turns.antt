@@ -20,7 +20,8 @@ use Rattle.tables.proofs.Laws.{length-records}
 use Rattle.loader.specs.declared.Pending.{Pending}
 use Rattle.loader.specs.declared.Loading.{Loading}
 use Rattle.loader.specs.Loading.{refuses, starts, freshAt, means}
-use Rattle.loader.specs.Filling.{linkedOn, left, Begins, Fills}
+use Rattle.loader.specs.Filling.{linkedOn, begunAt, left, Fills}
+use Rattle.loader.proofs.Loads.{load-scans}
 use Rattle.loader.proofs.Underway as under
 use Rattle.label_loader.specs.Loading.{linkedAt, loadOf, FromBinary}
 
@@ -48,7 +49,7 @@ module _ (image insts₀ : List ℕ) (labels₀ : List Label) where
 
   -- what `begin` says
   abbrev pub Began : Pending → Type 0
-  Began p = (is : List Inst) (ls : List Label) → length is ≡ length insts₀ / 32 → length ls ≡ room → Begins image (load image is ls) p
+  Began p = (is : List Inst) (ls : List Label) → length is ≡ length insts₀ / 32 → length ls ≡ room → p ≡ begunAt (load image is ls)
 
   abbrev pub Holds : Pending → List ℕ → List Label → Type 0
   Holds = under.Underway image insts₀ labels₀ (λ ls. ls) room given
@@ -69,7 +70,7 @@ module _ (image insts₀ : List ℕ) (labels₀ : List Label) where
   falls = InvImage·wf (λ (x : State). weight (x .p)) (Nat·lt-wfRel .wf)
 
   pub holds-first : (p : Pending) → Began p → Fits p → Holds p insts₀ labels₀
-  holds-first p b f = under.underway-begins image insts₀ labels₀ (λ ls. ls) room given p refl (b (instsOf insts₀) labels₀ (length-records inst insts₀) refl) f
+  holds-first p b f = under.underway-begins image insts₀ labels₀ (λ ls. ls) room given p refl (load-scans image (instsOf insts₀) labels₀) (b (instsOf insts₀) labels₀ (length-records inst insts₀) refl) f
 
   abbrev pub begun : (p : Pending) → Began p → Fits p → State
   begun p b f = record { p = p; insts = insts₀; labels = labels₀; holds = holds-first p b f }

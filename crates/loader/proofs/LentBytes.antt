@@ -11,7 +11,8 @@ use Rattle.tables.proofs.Laws.{length-records}
 use Rattle.loader.specs.declared.Pending.{Pending}
 use Rattle.loader.specs.declared.Loading.{Loading}
 use Rattle.loader.specs.Loading.{refuses, starts, freshAt, means, labelsLeft, loadOf, FromBinary}
-use Rattle.loader.specs.Filling.{linkedAt, Begins, Fills}
+use Rattle.loader.specs.Filling.{linkedAt, begunAt, Fills}
+use Rattle.loader.proofs.Loads.{load-scans}
 use Rattle.loader.proofs.Stores.{label-more}
 use Rattle.loader.proofs.Underway as load
 
@@ -28,11 +29,11 @@ module _ (image insts₀ labels₀ : List ℕ) where
   abbrev pub Fits : Pending → Type 0
   Fits = load.Fits image insts₀ labels₀ labelBytes room given
 
-  pub underway-begins : (p : Pending) → (length (instsOf insts₀) ≡ length insts₀ / 32 → length (labelsOf labels₀) ≡ room → Begins image given p) → Fits p
+  pub underway-begins : (p : Pending) → (length (instsOf insts₀) ≡ length insts₀ / 32 → length (labelsOf labels₀) ≡ room → p ≡ begunAt given) → Fits p
       → Underway p insts₀ labels₀
   unfolding numbersOf bytesOf
   underway-begins p b f =
-      load.underway-begins image insts₀ labels₀ labelBytes room given p refl (b (length-records inst insts₀) (length-records label labels₀)) f
+      load.underway-begins image insts₀ labels₀ labelBytes room given p refl (load-scans image (instsOf insts₀) (labelsOf labels₀)) (b (length-records inst insts₀) (length-records label labels₀)) f
 
   pub underway-on : (p q : Pending) (insts labels insts′ labels′ : List ℕ) → p .on ≡ true → Underway p insts labels
       → labels′ ≡ linkedAt labels (p .index) (p .start) (p .len) (p .target) → Fills image insts p q insts′ → length insts′ ≡ length insts → length labels′ ≡ length labels

@@ -4,7 +4,7 @@ mod Scans
 mod Instructions
 mod Rests
 mod Ends
-mod Loads
+pub mod Loads
 mod Stores
 mod Fillings
 pub mod Underway

@@ -1,6 +1,7 @@
 -- What the definition of a load says of its answers. Assumes nothing.
 use Prim.Native.Nat.{ℕ, _<_, _≤_}
 use mathlib.Core.Path.{_≡_, refl, ap}
+use mathlib.Core.Bool.{_||_}
 use mathlib.Core.List.{List}
 use native.Mathlib.Omega.{arith}
 use lib.Dec.{ltb}
@@ -94,3 +95,10 @@ module _ (image : List ℕ) (l : Loaded) where
 
   pub accepted-fits : loads image ≡ accepts l → countOf l ≤ instLimit
   accepted-fits e = let r = accepted-rest e in scanned-fits _ (r .gives)
+
+-- an accepted load's scan, whatever tables are lent
+pub load-scans : (image : List ℕ) (is : List Inst) (ls : List Label) (l : Loaded) → load image is ls ≡ accepts l → Rest image begin (accepts l)
+unfolding load
+load-scans image is ls l =
+    by-test (λ x. x ≡ accepts l → Rest image begin (accepts l)) (ltb (length is) instLimit || ltb (length ls) labelRecords) _ _ (λ _. never-both 10 l)
+    (λ _. accepted-rest image l)

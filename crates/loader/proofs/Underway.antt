@@ -9,12 +9,13 @@ use lib.Seq.{sets}
 use Rattle.inst.proofs.Laws.{never}
 use Rattle.machine.specs.Limits.{instLimit, labelRecords}
 use Rattle.machine.specs.declared.Label.{Label}
-use Rattle.machine.specs.Load.{Scan, begin, Loaded, Load, rejects, accepts, fresh}
+use Rattle.machine.specs.Load.{Scan, begin, lastOf, Loaded, Load, rejects, accepts, fresh, countOf}
 use Rattle.tables.specs.Tables.{numbersOf, bytesOf, instBytes}
 use Rattle.loader.specs.declared.Pending.{Pending}
 use Rattle.loader.specs.declared.Loading.{Loading}
 use Rattle.loader.specs.Loading.{refuses, starts, answerOf, freshAt, means, instsLeft}
-use Rattle.loader.specs.Filling.{linkedOn, Answers, Paused, HasInsts, StopsOrEnds, Begins, Fills}
+use Rattle.loader.specs.Reading.{countsOf}
+use Rattle.loader.specs.Filling.{linkedOn, begunWith, begunAt, Rest, Answers, Paused, HasInsts, StopsOrEnds, Fills}
 
 -- the tables lent at entry; the slots that labels take; how many labels there is room for; and what is to be loaded
 module _ {B : Type 0} (image insts₀ : List ℕ) (labels₀ : List B) (slots : List Label → List B) (room : ℕ) (given : Load) where
@@ -69,14 +70,20 @@ module _ {B : Type 0} (image insts₀ : List ℕ) (labels₀ : List B) (slots : 
     pub insts-are : insts ≡ instsLeft given insts₀
     pub labels-are : labels ≡ leaves given
 
-  -- as it begins
-  begun : (x : Load) (p : Pending) → labels₀ ≡ holding [] → Begins image x p → State x p insts₀ labels₀
-  unfolding Begins State LinkingOrFilled numbersOf bytesOf
-  begun (rejects n) p e b = record { off = b .0; refused-is = b .1; number-is = b .2; insts-same = refl; labels-same = refl }
-  begun (accepts l) p e b = (
-    b .1,
-    subst (λ (o : Bool). LinkingOrFilled o l p insts₀ labels₀) (sym (b .0))
-        (record { before = []; reached = begin; paused = b .2; has-insts = refl; has-labels = e }),
+  -- as it begins: what is accepted was scanned from the image's front
+  abbrev pub Scans : Load → Type 0
+  Scans x = (l : Loaded) → x ≡ accepts l → Rest image begin (accepts l)
+
+  first-label : (l : Loaded) → Rest image begin (accepts l) → Paused image l [] begin (begunWith true 0 (l .ip) (countOf l))
+  unfolding countsOf lastOf linkedOn
+  first-label l r = record { counts-are = refl; has-head = omega arith; rest = r; labels-are = refl; index-is = refl }
+
+  begun : (x : Load) → labels₀ ≡ holding [] → Scans x → State x (begunAt x) insts₀ labels₀
+  unfolding begunAt State LinkingOrFilled numbersOf bytesOf
+  begun (rejects n) e r = record { off = refl; refused-is = refl; number-is = refl; insts-same = refl; labels-same = refl }
+  begun (accepts l) e r = (
+    record { accepted-is = refl; ip-is = refl; count-is = refl },
+    record { before = []; reached = begin; paused = first-label l (r l refl); has-insts = refl; has-labels = e },
   )
 
   -- a label linked, and on to the next
@@ -132,8 +139,9 @@ module _ {B : Type 0} (image insts₀ : List ℕ) (labels₀ : List B) (slots : 
       let c = s .0 .count-is in
       ap (λ (o : Bool). cond o (starts (freshAt (p .ip)) (p .count)) (refuses (p .number))) a ∙ ap (λ (n : ℕ). starts (freshAt n) (p .count)) b ∙ ap (starts (fresh l)) c
 
-  pub underway-begins : (p : Pending) → labels₀ ≡ holding [] → Begins image given p → Fits p → Underway p insts₀ labels₀
-  underway-begins p e b f = record { insts-long = refl; labels-long = refl; fits = f; state = begun given p e b }
+  pub underway-begins : (p : Pending) → labels₀ ≡ holding [] → Scans given → p ≡ begunAt given → Fits p → Underway p insts₀ labels₀
+  underway-begins p e r b f =
+      record { insts-long = refl; labels-long = refl; fits = f; state = subst (λ (q : Pending). State given q insts₀ labels₀) (sym b) (begun given e r) }
 
   pub underway-on : (p q : Pending) (insts : List ℕ) (labels : List B) (insts′ : List ℕ) (labels′ : List B) → p .on ≡ true → Underway p insts labels
       → Links p labels labels′ → Fills image insts p q insts′ → length insts′ ≡ length insts → length labels′ ≡ length labels → Underway q insts′ labels′

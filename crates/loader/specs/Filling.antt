@@ -25,7 +25,28 @@ unfoldable pub linkedOn : Pending → List Label → List Label
 linkedOn p [] = head 0 ∷ []
 linkedOn p (h ∷ ls) = linked (named 21 (p .start) (p .len)) (p .target) (h ∷ ls)
 
--- the code's states: at the label i, before which it kept c, and d behind it; and at the end
+-- the code's states: before the first instruction, where the head, a label record of zeros, is to be linked if the load is accepted
+abbrev pub begunWith : Bool → ℕ → ℕ → ℕ → Pending
+begunWith accepted number ip count =
+    record {
+      on = accepted;
+      accepted = accepted;
+      number = number;
+      ip = ip;
+      count = count;
+      counts = countsOf [] begin;
+      index = 0;
+      start = 0;
+      len = 0;
+      target = 0;
+    }
+
+-- as a load begins: a number and nothing else, or the pointer and the count
+unfoldable pub begunAt : Load → Pending
+begunAt (rejects n) = begunWith false n 0 0
+begunAt (accepts l) = begunWith true 0 (l .ip) (countOf l)
+
+-- at the label i, before which it kept c, and d behind it; and at the end
 abbrev pub pausedAt : Pending → Counts → Counts → Inst → Pending
 pausedAt p c d i =
     record {
@@ -106,8 +127,3 @@ pub record Fills (image insts : List ℕ) (p q : Pending) (insts′ : List ℕ) 
   pub index-fits : q .on ≡ true → q .index < labelRecords
   pub leads : (xs : List ℕ) (l : Loaded) (before : List Label) (s : Scan) → Answers l p → Paused image l before s p → HasInsts xs s insts
       → Answers l q × StopsOrEnds (q .on) image xs l (s .labels) q insts′
-
--- the state in which a load begins: a number, or the head to be written first
-unfoldable pub Begins : List ℕ → Load → Pending → Type 0
-Begins image (rejects n) p = (p .on ≡ false) × (p .accepted ≡ false) × (p .number ≡ n)
-Begins image (accepts l) p = (p .on ≡ true) × Answers l p × Paused image l [] begin p

@@ -14,7 +14,7 @@ ghost use Rattle.machine.specs.Limits.{instLimit, labelRecords};
 ghost use Rattle.machine.specs.Load.{halt, load};
 ghost use Rattle.tables.specs.Tables.{bytesOf, instNumbers};
 ghost use Rattle.loader.specs.Loading.{means, numberIn, refuses, starts, freshAt};
-ghost use Rattle.loader.specs.Filling.{linkedAt, pausedAt, endedAt, Begins, Fills};
+ghost use Rattle.loader.specs.Filling.{linkedAt, begunWith, begunAt, pausedAt, endedAt, Fills};
 use crate::Counts;
 use crate::HALT;
 use crate::INST_LIMIT;
@@ -41,9 +41,9 @@ pub fn link(labels: &mut [u8], index: usize, start: u64, len: u64, target: u64)
     put(labels, 0, 0, 0, 0, index as u64);
 }
 
-// A load that is over, with a number.
+// A load that is over, with a number and nothing else.
 fn refused(number: u8) -> Pending
-    ensures { λ r. ⌜ (r .on ≡ false) × (r .accepted ≡ false) × (r .number ≡ number) ⌝ }
+    ensures { λ r. ⌜ r ≡ begunWith false number 0 0 ⌝ }
 {
     Pending {
         on: false,
@@ -71,7 +71,7 @@ fn number(l: Loading) -> u8
 
 // 10, then what the image gives. An accepted image starts with the head of the label table.
 pub fn begin(image: &[u8], insts: usize, labels: usize) -> Pending
-    ensures { λ r. ⌜ ((is : List Inst) (ls : List Label) → length is ≡ insts → length ls ≡ labels → Begins (now (image .entry)) (load (now (image .entry)) is ls) r) ⌝ }
+    ensures { λ r. ⌜ ((is : List Inst) (ls : List Label) → length is ≡ insts → length ls ≡ labels → r ≡ begunAt (load (now (image .entry)) is ls)) ⌝ }
     ensures { λ r. ⌜ (r .on ≡ true → (instLimit ≤ insts) × (labelRecords ≤ labels) × (r .count ≤ instLimit) × (r .index < labelRecords)) ⌝ }
 {
     if insts < INST_LIMIT {

@@ -20,7 +20,7 @@ use crate::NATIVE;
 use crate::Next;
 use inst::TABLE_SIZE;
 use inst_decode::Decoded;
-use inst_decode::from_bytes;
+use inst_decode::decode;
 
 // Before the first instruction: the label table has its head.
 pub fn first() -> Counts
@@ -128,7 +128,7 @@ pub fn next_inst(forms: &[u8; TABLE_SIZE], image: &[u8], c: Counts) -> Next
     ensures { λ r. ⌜ ((s : Scan) → 0 < length (s .labels) → c ≡ countsOf (now (image .entry)) s → r ≡ nextOf (now (image .entry)) (scanOne s (fromBytes (now (image .entry)) (s .at)))) ⌝ }
     ensures { λ r. ⌜ Ahead (length (now (image .entry))) c r ⌝ }
 {
-    let did = from_bytes(forms, image, c.at);
+    let did = decode(forms, image, c.at);
     let Decoded::Read(i, size) = did else {
         return Next::Refused(number(did));
     };

@@ -25,8 +25,8 @@ use Rattle.step_core.specs.Parts.{callHeight, whole, Inside}
 use Rattle.lookup.specs.Walks.{lent}
 use Rattle.known.specs.Known.{knownLimit, unknown, Known}
 use Rattle.run.specs.declared.progress.Progress.{Progress}
-use Rattle.run.specs.Turns.{endingOf, closed, asking, ending}
-use Rattle.run.specs.Runs.{Reaches, Begins, runBytes}
+use Rattle.run.specs.Turns.{endingOf, closed, asking, ending, over, IsOver}
+use Rattle.run.specs.Runs.{Reaches, Begins, runBytes, progressOf, ExecuteParts}
 use Rattle.run.proofs.Courses.{more-none, halts, spends, ills, none-written}
 use Rattle.run.proofs.Running.{stands-over}
 
@@ -45,29 +45,30 @@ module _ (image xs : List ℕ) (labels : List Label) (count : ℕ) (c : Core) (f
 
 -- a run that makes no step
 module _ (p : Program) (xs b : List ℕ) (limit : ℕ) (c : Core) (f : ℕ) (h : Bool) (s ca me : List ℕ) where
-  at-once : (left kind number : ℕ) → left ≡ limit → h ≡ eqb kind 0 →
+  at-once : (left kind number : ℕ) → left ≡ limit → h ≡ eqb kind 0 → IsOver (ending c f left 0 kind number) →
       course p limit (length b / 8) (whole c f s ca me h) ≡ ended (endingOf kind number) (whole c f s ca me h) →
       Begins p xs b limit c f h s ca me (ending c f left 0 kind number)
-  at-once left kind number q i r =
+  at-once left kind number q i o r =
       let z : limit - left ≡ 0 = omega arith in
       record {
-        stands = stands-over (replicate knownLimit unknown) (replicate knownLimit 0) refl (record {
+        stands = stands-over (replicate knownLimit unknown) (replicate knownLimit 0) (record {
           is = ap (λ (n : ℕ). closed n (ending c f left 0 kind number) b s ca me) z ∙ ap (λ (x : Bool). ended (endingOf kind number) (whole c f s ca me x)) (sym i) ∙ sym r;
           long = refl;
           written = none-written b;
           fewer = omega arith;
           filled = omega arith;
+          shape = o;
         });
       }
 
   pub begins-halted : h ≡ true → Begins p xs b limit c f h s ca me (ending c f limit 0 0 0)
-  begins-halted i = at-once limit 0 0 refl i (halts p limit (length b / 8) (whole c f s ca me h) i)
+  begins-halted i = at-once limit 0 0 refl i refl (halts p limit (length b / 8) (whole c f s ca me h) i)
 
   pub begins-spent : h ≡ false → limit ≡ 0 → Begins p xs b limit c f h s ca me (ending c f 0 0 1 0)
-  begins-spent i z = at-once 0 1 0 (sym z) i (spends p limit (length b / 8) (whole c f s ca me h) i z)
+  begins-spent i z = at-once 0 1 0 (sym z) i refl (spends p limit (length b / 8) (whole c f s ca me h) i z)
 
   pub begins-ill : h ≡ false → (limit ≡ 0 → ⊥) → wellState p (whole c f s ca me false) ≡ false → Begins p xs b limit c f h s ca me (ending c f limit 0 2 34)
-  begins-ill i z w = at-once limit 2 34 refl i (ills p limit (length b / 8) (whole c f s ca me h) i (omega (arith, z)) (rw i w))
+  begins-ill i z w = at-once limit 2 34 refl i refl (ills p limit (length b / 8) (whole c f s ca me h) i (omega (arith, z)) (rw i w))
 
 -- a fresh array knows nothing
 nothing : (p : Program) (xs targets : List ℕ) → Known p xs (replicate knownLimit unknown) targets
@@ -110,3 +111,17 @@ reports p m limit b o b' s ca me r =
     let long' = length-numbers-in b' in
     let l : length (take (o .dumped) (numbersIn b')) ≡ o .dumped = length-take-le _ _ (omega (arith, r .filled)) in
     rw (← (r .is)) (rw (l, ← (r .written)) refl)
+
+-- and nothing of its outcome is left open
+pub answers : (p : Program) (m : Machine) (limit : ℕ) (b : List ℕ) (o : Progress) (b' s ca me : List ℕ) → Reaches (course p limit (length b / 8) m) limit b o b' s ca me →
+    o ≡ progressOf limit (runBytes p limit b m)
+answers p m limit b o b' s ca me r =
+    let l : o .left ≡ limit - (limit - o .left) = omega (arith, r .fewer) in
+    r .shape
+    ∙ ap (λ (n : ℕ). over (o .core) (o .flags) n (o .dumped) (endingOf (o .ending) (o .number))) l
+    ∙ ap (progressOf limit) (reports p m limit b o b' s ca me r)
+
+-- no more steps are left than the limit has
+pub within : {image insts labels : List ℕ} {count : ℕ} {m : Machine} {limit : ℕ} {dumps : List ℕ} {r : Progress} {s ca me dumps′ : List ℕ} →
+    ExecuteParts image insts labels count m limit dumps r s ca me dumps′ → r .left ≤ limit
+within e = rw (e .answers) (omega arith)

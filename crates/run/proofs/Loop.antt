@@ -27,7 +27,7 @@ use Rattle.run.specs.declared.progress.Turn.{Turn}
 use Rattle.run.specs.declared.progress.Turn.the-variants.{Go, End}
 use Rattle.run.specs.Turns.{FollowsTry, ending}
 use Rattle.run.specs.Runs.{Running, Stands, weight, Advances}
-use Rattle.run.proofs.Running.{is-over, known-on, went, ended-by, stands-over}
+use Rattle.run.proofs.Running.{is-over, known-on, went, ended-by, off, stands-over}
 
 -- the weight that a run has at first, with what was found
 abbrev first : ℕ → ℕ → ℕ
@@ -107,7 +107,7 @@ module _ {image xs : List ℕ} {count : ℕ} where
     -- no step is left
     pub loop-over : left ≡ 0 → Stops image xs count c₀ f₀ left₀ n₀ asked b₀ keys₀ targets₀ s₀ ca₀ me₀ (ending c f 0 n 1 0) b keys targets s ca me
     loop-over z =
-        record { stops = λ labels buffer limit run r told. (stands-over keys targets refl (is-over (inv .runs labels buffer limit run r told .0) z), λ e. never e) }
+        record { stops = λ labels buffer limit run r told. (stands-over keys targets (is-over (inv .runs labels buffer limit run r told .0) z), λ e. never e) }
 
     module _ (l : 0 < left) {keys' targets' s' ca' me' b' : List ℕ} where
       -- a step, and the known ones behind it
@@ -138,12 +138,11 @@ module _ {image xs : List ℕ} {count : ℕ} where
           Tries image xs count c f found keys targets s ca me t keys' targets' s' ca' me' → FollowsTry t c f left n b b' (End o) →
           Stops image xs count c₀ f₀ left₀ n₀ asked b₀ keys₀ targets₀ s₀ ca₀ me₀ o b' keys' targets' s' ca' me'
       loop-stops (Done a) tries q =
-          let off = q .followed .followed .2 in
           record {
             stops = λ labels buffer limit run r told.
                 let now = inv .runs labels buffer limit run r told in
                 let made = tries .tried labels (now .1) in
-                (stands-over keys' targets' off (ended-by (now .0) l (made .0) (q .followed)), λ e. never (sym off ∙ e));
+                (stands-over keys' targets' (ended-by (now .0) l (made .0) (q .followed)), λ e. never (sym (off (q .followed .followed .2)) ∙ e));
           }
       loop-stops (Asks start len) tries q =
           rw (end-of (q .followed .0), q .followed .1) (record {

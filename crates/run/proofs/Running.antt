@@ -21,7 +21,7 @@ use Rattle.quick.proofs.Turns.{course-turn}
 use Rattle.step.specs.Steps.{Made}
 use Rattle.run.specs.declared.progress.Progress.{Progress}
 use Rattle.run.specs.declared.progress.Turn.the-variants.{Go, End}
-use Rattle.run.specs.Turns.{more, closed, turned, Follows, ending}
+use Rattle.run.specs.Turns.{more, closed, turned, Follows, ending, IsOver}
 use Rattle.run.specs.Runs.{Running, Reaches, Stands, Ready}
 use Rattle.run.proofs.Courses.{more-plus, more-ended, spends, resting}
 
@@ -40,6 +40,7 @@ module _ {p : Program} {xs b₀ : List ℕ} {limit : ℕ} {run : Course} {c : Co
         written = inv .written;
         fewer = omega arith;
         filled = inv .filled;
+        shape = refl;
       }
 
   -- known steps
@@ -99,12 +100,18 @@ module _ {p : Program} {xs b₀ : List ℕ} {limit : ℕ} {run : Course} {c : Co
           written = fills .written b₀ (inv .written);
           fewer = omega (arith, inv .fewer, q .followed .1);
           filled = omega (arith, fills .filled, fills .long);
+          shape = q .followed .2;
         }
 
+pub off : {o : Progress} → IsOver o → o .on ≡ false
+off e = ap (λ (o : Progress). o .on) e
+
 -- a run that is over stands
-pub stands-over : {p : Program} {xs b₀ : List ℕ} {limit : ℕ} {run : Course} {o : Progress} {b : List ℕ} (keys targets : List ℕ) {s ca me : List ℕ} → o .on ≡ false →
+pub stands-over : {p : Program} {xs b₀ : List ℕ} {limit : ℕ} {run : Course} {o : Progress} {b : List ℕ} (keys targets : List ℕ) {s ca me : List ℕ} →
     Reaches run limit b₀ o b s ca me → Stands p xs b₀ limit run o b keys targets s ca me
-stands-over keys targets e r = record { running = λ t. never (sym e ∙ t); named = λ t. never (sym e ∙ t); reached = λ t. r }
+stands-over keys targets r =
+    let e = off (r .shape) in
+    record { running = λ t. never (sym e ∙ t); named = λ t. never (sym e ∙ t); reached = λ t. r }
 
 -- a run that goes on has what `steps` requires
 pub ready : {p : Program} {xs b₀ : List ℕ} {limit : ℕ} {run : Course} {o : Progress} {b keys targets s ca me : List ℕ} → Stands p xs b₀ limit run o b keys targets s ca me → o .on ≡ true →

@@ -20,7 +20,7 @@ use Rattle.known.specs.Known.{knownLimit, unknown, Known, Sized, Listed, Over}
 use Rattle.step.specs.Steps.{NamedAt}
 use Rattle.run.specs.declared.progress.Progress.{Progress}
 use Rattle.run.specs.declared.Ran.{Ran}
-use Rattle.run.specs.Turns.{more, closed, endingOf, Written}
+use Rattle.run.specs.Turns.{more, closed, endingOf, over, IsOver, Written}
 
 -- Of a run of p over the table xs with this limit and buffer: the limit less `left` steps led to the machine of c, f and the arrays, with n cells of
 -- the buffer filled, and what is known of the instructions is right
@@ -42,6 +42,7 @@ pub record Reaches (run : Course) (limit : ℕ) (b₀ : List ℕ) (o : Progress)
   pub written : Written (o .dumped) b₀ b
   pub fewer : o .left ≤ limit
   pub filled : o .dumped * 8 ≤ length b
+  pub shape : IsOver o
 
 -- The run goes on, and a name that it asks for is that of the instruction at the pointer; or it is over
 pub record Stands (p : Program) (xs b₀ : List ℕ) (limit : ℕ) (run : Course) (o : Progress) (b keys targets s ca me : List ℕ) : Type 0 where
@@ -95,11 +96,16 @@ runBytes p limit dumps m =
     let r = course p limit (length dumps / 8) m in
     record { machine = r .machine; ending = r .ending; steps = r .steps; dumped = length (r .cells); buffer = sets dumps 0 (bytesOf (r .cells)) }
 
--- of a run with this limit over lent tables: the outcome r with the arrays and the buffer that are left is the definition's result from m
+-- how far a run with this limit has come where its result is r
+abbrev pub progressOf : ℕ → Result → Progress
+progressOf limit r =
+    over (record { ip = r .machine .ip; height = r .machine .height; «call_height» = r .machine .«call_height» }) (r .machine .flags) (limit - r .steps) (r .dumped) (r .ending)
+
+-- of a run with this limit over lent tables: the definition's result from m determines the outcome r, all of it, and is r with the arrays and the buffer
+-- that are left
 pub record ExecuteParts (image insts labels : List ℕ) (count : ℕ) (m : Machine) (limit : ℕ) (dumps : List ℕ) (r : Progress) (s ca me dumps′ : List ℕ) : Type 0 where
+  pub answers : r ≡ progressOf limit (runBytes (program image insts labels count) limit dumps m)
   pub gives : record { machine = whole (r .core) (r .flags) s ca me (eqb (r .ending) 0); ending = endingOf (r .ending) (r .number); steps = limit - r .left; dumped = r .dumped; buffer = dumps′ } ≡ runBytes (program image insts labels count) limit dumps m
-  pub fewer : r .left ≤ limit
-  pub long : length dumps′ ≡ length dumps
 
 -- what a run's answer says
 abbrev pub answer : Ran → List ℕ → Result

@@ -25,14 +25,38 @@ use Rattle.run.specs.declared.progress.Turn.the-variants.{Go, End}
 unfoldable pub more : ℕ → List ℕ → Course → Course
 more k out r = record { machine = r .machine; ending = r .ending; steps = k + r .steps; cells = out ++ r .cells }
 
--- an ending as two numbers
+-- an ending of two numbers: 0, 1, or 2 with a number beside it. A kind above 2 would stand for the same as 2; no run leaves one
 abbrev pub endingOf : ℕ → ℕ → Ending
 endingOf kind n = cond (eqb kind 0) Halted (cond (eqb kind 1) Limit (Number n))
+
+-- the two numbers of an ending; the second is 0 where there is no number
+abbrev pub kindOf : Ending → ℕ
+kindOf Halted = 0
+kindOf Limit = 1
+kindOf (Number n) = 2
+
+abbrev pub besideOf : Ending → ℕ
+besideOf Halted = 0
+besideOf Limit = 0
+besideOf (Number n) = n
 
 -- the course of a run that is over, after this many steps
 abbrev pub closed : ℕ → Progress → List ℕ → List ℕ → List ℕ → List ℕ → Course
 closed steps o b s ca me =
     record { machine = whole (o .core) (o .flags) s ca me (eqb (o .ending) 0); ending = endingOf (o .ending) (o .number); steps = steps; cells = take (o .dumped) (numbersIn b) }
+
+-- a run that is over
+abbrev pub ending : Core → ℕ → ℕ → ℕ → ℕ → ℕ → Progress
+ending c f left n kind number = record { core = c; flags = f; left = left; dumped = n; on = false; start = 0; len = 0; ending = kind; number = number }
+
+-- the same with an ending as the definition has it, which leaves nothing else open
+abbrev pub over : Core → ℕ → ℕ → ℕ → Ending → Progress
+over c f left n e =
+    record { core = c; flags = f; left = left; dumped = n; on = false; start = 0; len = 0; ending = kindOf e; number = besideOf e }
+
+-- o is over
+abbrev pub IsOver : Progress → Type 0
+IsOver o = o ≡ over (o .core) (o .flags) (o .left) (o .dumped) (endingOf (o .ending) (o .number))
 
 -- with so many steps and so much room left, the turn that m takes by the step st
 abbrev pub turned : Machine → (ℕ → Machine → Course) → ℕ → ℕ → Stepped → Course
@@ -63,7 +87,7 @@ Followed a c f left n b b' (End o) =
     ((s ca me s' ca' me' : List ℕ) (rest : ℕ → Machine → Course) (k : ℕ) → Rests rest → Untaken a ((s' ≡ s) × (ca' ≡ ca) × (me' ≡ me)) →
     more k (take n (numbersIn b)) (turned (whole c f s ca me false) rest left (length b / 8 - n) (means f a s' ca' me')) ≡ closed (k + (left - o .left)) o b' s' ca' me')
     × (o .left ≤ left)
-    × (o .on ≡ false)
+    × IsOver o
     × Fills n b (o .dumped) b'
 
 pub record Follows (a : Executed) (c : Core) (f left n : ℕ) (b b' : List ℕ) (r : Turn) : Type 0 where
@@ -72,10 +96,6 @@ pub record Follows (a : Executed) (c : Core) (f left n : ℕ) (b b' : List ℕ) 
 -- a run that asks for the lookup of a name
 abbrev pub asking : Core → ℕ → ℕ → ℕ → ℕ → ℕ → Progress
 asking c f left n start len = record { core = c; flags = f; left = left; dumped = n; on = true; start = start; len = len; ending = 0; number = 0 }
-
--- one that is over
-abbrev pub ending : Core → ℕ → ℕ → ℕ → ℕ → ℕ → Progress
-ending c f left n kind number = record { core = c; flags = f; left = left; dumped = n; on = false; start = 0; len = 0; ending = kind; number = number }
 
 -- the same behind a step that was tried: where it asks, so does the run
 abbrev pub FollowsTried : Tried → Core → ℕ → ℕ → ℕ → List ℕ → List ℕ → Turn → Type 0

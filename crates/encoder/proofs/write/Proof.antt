@@ -27,8 +27,8 @@ inst-at-requires c κs =
     let w = c .before .loop .inv .within in
     omega arith
 
-as-bytes-requires : tie.Need-as-bytes-requires Inv-loop μ-loop
-as-bytes-requires c κs =
+put-inst-requires : tie.Need-put-inst-requires Inv-loop μ-loop
+put-inst-requires c κs =
     let e = c .before .inst-at .ensures in
     let t = c .before .before .loop-test .taken in
     let s = c .before .before .before .loop .inv in
@@ -39,14 +39,14 @@ add-at c =
     let t = c .before .before .before .before .before .loop-test .taken in
     let s = c .before .before .before .before .before .before .loop .inv in
     let f = stored-fits _ _ _ _ _ _ _ s _ t (c .before .before .before .before .inst-at .ensures) in
-    let e = c .before .before .as-bytes .ensures .0 in
+    let e = c .before .before .put-inst .ensures .0 in
     omega (arith, s .same, c .before .before .before .before .before .before .before .before .before .before .good)
 
 loop-again : tie.Need-loop-again Inv-loop μ-loop
 loop-again c =
     let t = c .before .before .before .before .before .loop-test .taken in
     let s = c .before .before .before .before .before .before .loop .inv in
-    let e = c .before .before .as-bytes .ensures in
+    let e = c .before .before .put-inst .ensures in
     stored-next _ _ _ _ _ _ _ s _ _ _ t (c .before .before .before .before .inst-at .ensures) (e .0) (e .1)
 
 returns : tie.Need-returns Inv-loop μ-loop
@@ -60,7 +60,7 @@ write-spec =
     μ-loop
     loop-holds
     inst-at-requires
-    as-bytes-requires
+    put-inst-requires
     add-at
     (λ c. search needs)
     (λ c. search needs)

@@ -2,6 +2,7 @@
 use mathlib.Core.Path.{sym, _∙_}
 use borrow.Author.Tests.{not-true, not-false}
 use Rattle.mm_host.specs.Calls.{runCall}
+use Rattle.run.proofs.Edges.{within}
 use Rattle.mm_host.proofs.Answers.{machine-long, read-is, run-call}
 use borrow.Author.Needs.{needs}
 use Rattle.mm_host.proofs.mm_run.Statement.{statement}
@@ -26,6 +27,9 @@ is-halted-requires c κs = machine-long _ (sym (c .before .before .before .befor
 write-parts-requires : tie.Need-write-parts-requires
 write-parts-requires c κs = machine-long _ (sym (c .before .before .before .before .before .before .before .before .before .before .before .before .before .before .before .before .before .before .before .before .before .before .before .before .is-machine .ensures) ∙ not-false _ (c .before .before .before .before .before .before .before .before .before .before .before .before .before .before .before .before .before .before .before .before .before .before .before .if1 .left))
 
+ran-requires : tie.Need-ran-requires
+ran-requires c κs = within (c .before .before .before .before .before .before .before .before .before .before .execute-parts .ensures)
+
 returns-2 : tie.Need-returns-2
 returns-2 c =
     run-call _ _ _ _ _ _ _ _ _ _ _ _ _ _ _ (sym (c .before .before .before .before .before .before .before .before .before .before .before .before .before .before .before .before .before .before .before .before .before .before .before .before .before .before .before .before .is-machine .ensures) ∙ not-false _ (c .before .before .before .before .before .before .before .before .before .before .before .before .before .before .before .before .before .before .before .before .before .before .before .before .before .before .before .if1 .left))
@@ -47,7 +51,7 @@ mm-run-spec =
     is-halted-requires
     (λ c κs. search needs)
     write-parts-requires
-    (λ c κs. search needs)
+    ran-requires
     (λ c. search needs)
     (λ c. search needs)
     returns-2)

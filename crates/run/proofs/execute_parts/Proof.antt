@@ -5,7 +5,7 @@ use borrow.Author.Needs.{needs}
 use Rattle.machine.specs.Run.{Course}
 use Rattle.tables.specs.Tables.{labelsOf, instsOf, program}
 use Rattle.run.specs.Runs.{Stands, weight}
-use Rattle.run.proofs.Edges.{reports}
+use Rattle.run.proofs.Edges.{reports, answers}
 use Rattle.run.proofs.Running.{ready}
 use Rattle.run.proofs.execute_parts.Statement.{statement}
 use Rattle.run.proofs.execute_parts.Tie as tie
@@ -38,7 +38,7 @@ same-length c = c .before .loop .inv .1 _ (c .before .before .begin .ensures (c 
 returns : tie.Need-returns Inv-loop μ-loop
 returns c =
     let reached = c .before .loop .inv .1 _ (c .before .before .begin .ensures (c .before .before .before .before .before .before .before .args .image .now) (labelsOf (c .before .before .before .before .before .before .before .args .labels .now)) (c .before .before .before .before .before .before .before .args .dumps .now) _ _ _ (c .before .loop .inv .0) .stands) .reached (c .loop-test .left) in
-    record { gives = reports _ _ _ _ _ _ _ _ _ reached; fewer = reached .fewer; long = reached .long }
+    record { answers = answers _ _ _ _ _ _ _ _ _ reached; gives = reports _ _ _ _ _ _ _ _ _ reached }
 
 pub execute-parts-spec : {M : Type 1} → statement M
 execute-parts-spec =

@@ -14,33 +14,33 @@ use Rattle.loader.proofs.reading.next_inst.Tie as tie
 returns : tie.Need-returns
 unfolding Ahead
 returns c =
-    let r = refused-is (c .before .before .from-bytes .result) (c .before .match .keys2) in
-    (λ s h e. rw (c .number .ensures) (next-refused _ _ s e _ (sym (c .before .before .from-bytes .ensures) ∙ r)), tt)
+    let r = refused-is (c .before .before .decode .result) (c .before .match .keys2) in
+    (λ s h e. rw (c .number .ensures) (next-refused _ _ s e _ (sym (c .before .before .decode .ensures) ∙ r)), tt)
 
 returns-2 : tie.Need-returns-2
 unfolding Ahead means
-returns-2 c = (λ s h e. next-five _ _ s e _ _ (sym (c .before .before .before .before .before .from-bytes .ensures) ∙ ap means (c .before .before .before .did .given .1)) (c .if1 .taken), tt)
+returns-2 c = (λ s h e. next-five _ _ s e _ _ (sym (c .before .before .before .before .before .decode .ensures) ∙ ap means (c .before .before .before .did .given .1)) (c .if1 .taken), tt)
 
 counted-requires : tie.Need-counted-requires
 unfolding means
 counted-requires c κs =
-    let r = read-in _ _ _ _ (sym (c .before .before .before .before .before .from-bytes .ensures) ∙ ap means (c .before .before .before .did .given .1)) in
+    let r = read-in _ _ _ _ (sym (c .before .before .before .before .before .decode .ensures) ∙ ap means (c .before .before .before .did .given .1)) in
     let n = c .before .before .before .before .before .before .shared-slice-known .given in
     ((c .if1 .left), omega (arith, r .inside))
 
 returns-3 : tie.Need-returns-3
 unfolding Ahead means
 returns-3 c =
-    let f = (sym (c .before .before .before .before .before .before .before .before .from-bytes .ensures) ∙ ap means (c .before .before .before .before .before .before .did .given .1)) in
+    let f = (sym (c .before .before .before .before .before .before .before .before .decode .ensures) ∙ ap means (c .before .before .before .before .before .before .did .given .1)) in
     rw (c .before .before .counted .ensures) (λ s h e. next-plain _ _ s e _ _ f (c .before .before .before .if1 .left) (c .if2 .taken), further-plain _ _ _ _ f (c .before .before .before .if1 .left) (c .if2 .taken))
 
 returns-4 : tie.Need-returns-4
 unfolding Ahead means
-returns-4 c = (λ s h e. next-six _ _ s e _ _ (sym (c .before .before .before .before .before .before .before .before .before .before .from-bytes .ensures) ∙ ap means (c .before .before .before .before .before .before .before .before .did .given .1)) (c .before .before .before .before .before .if1 .left) (c .before .before .if2 .left) (c .if3 .taken), tt)
+returns-4 c = (λ s h e. next-six _ _ s e _ _ (sym (c .before .before .before .before .before .before .before .before .before .before .decode .ensures) ∙ ap means (c .before .before .before .before .before .before .before .before .did .given .1)) (c .before .before .before .before .before .if1 .left) (c .before .before .if2 .left) (c .if3 .taken), tt)
 
 is-start-requires : tie.Need-is-start-requires
 unfolding means
-is-start-requires c κs = read-in _ _ _ _ (sym (c .before .before .before .before .before .before .before .before .before .before .from-bytes .ensures) ∙ ap means (c .before .before .before .before .before .before .before .before .did .given .1)) .name-inside
+is-start-requires c κs = read-in _ _ _ _ (sym (c .before .before .before .before .before .before .before .before .before .before .decode .ensures) ∙ ap means (c .before .before .before .before .before .before .before .before .did .given .1)) .name-inside
 
 labelled-requires : tie.Need-labelled-requires
 labelled-requires c κs = rw (c .before .before .before .before .before .counted .ensures) (c .before .if3 .left)
@@ -48,7 +48,7 @@ labelled-requires c κs = rw (c .before .before .before .before .before .counted
 returns-5 : tie.Need-returns-5
 unfolding Ahead means
 returns-5 c =
-    let f = (sym (c .before .before .before .before .before .before .before .before .before .before .before .before .from-bytes .ensures) ∙ ap means (c .before .before .before .before .before .before .before .before .before .before .did .given .1)) in
+    let f = (sym (c .before .before .before .before .before .before .before .before .before .before .before .before .decode .ensures) ∙ ap means (c .before .before .before .before .before .before .before .before .before .before .did .given .1)) in
     let i = c .before .before .before .before .before .before .before .before .before .before .did .given .0 .0 in
     rw (c .labelled .ensures, c .before .before .before .before .before .before .counted .ensures, c .before .is-start .ensures)
     (λ s h e. next-label _ _ s e _ _ f h (c .before .before .before .before .before .before .before .if1 .left) (c .before .before .before .before .if2 .left) (c .before .before .if3 .left), further-label _ _ _ _ f (c .before .before .before .before .before .before .before .if1 .left) (same startName (part (c .before .before .before .before .before .before .before .before .before .before .before .before .before .before .args .image .now) (i .start) (i .len))) (c .before .before .if3 .left))

@@ -1,4 +1,4 @@
--- `inst_encode::as_bytes` meets its contract. Assumes nothing.
+-- `inst_encode::put_inst` meets its contract. Assumes nothing.
 use mathlib.Core.Path.{_≡_, refl, ap, sym}
 use mathlib.Core.List.{[], _∷_}
 use native.Mathlib.Omega.{arith}
@@ -11,8 +11,8 @@ use Rattle.inst_encode.proofs.Laws.{bytes-are, no-operand, stored-first
 use Rattle.inst.proofs.Facts.{typ-byte, name-inside}
 use Rattle.inst_encode.proofs.Facts.{size-is}
 use borrow.Author.Needs.{needs}
-use Rattle.inst_encode.proofs.as_bytes.Statement.{statement}
-use Rattle.inst_encode.proofs.as_bytes.Tie as tie
+use Rattle.inst_encode.proofs.put_inst.Statement.{statement}
+use Rattle.inst_encode.proofs.put_inst.Tie as tie
 
 cast-out : tie.Need-cast-out
 cast-out c =
@@ -90,8 +90,8 @@ returns-4 c =
     let a : asBytes (s .args .image .now) (s .args .inst) ≡ s .args .inst .typ ∷ [] = rw o at (bytes-are (s .args .image .now) (s .args .inst) _ refl) in
     (sym (ap length a), stored-first _ _ _ [] _ _ a refl)
 
-pub as-bytes-spec : {M : Type 1} → statement M
-as-bytes-spec =
+pub put-inst-spec : {M : Type 1} → statement M
+put-inst-spec =
     tie.close
     (tie.spec
     cast-out

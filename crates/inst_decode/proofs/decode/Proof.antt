@@ -1,4 +1,4 @@
--- `inst_decode::from_bytes` meets its contract. Assumes nothing.
+-- `inst_decode::decode` meets its contract. Assumes nothing.
 use mathlib.Core.Path.{_∙_, sym}
 use Prim.Native.Nat.{_≤_}
 use native.Mathlib.Omega.{arith}
@@ -9,8 +9,8 @@ use Rattle.inst_decode.specs.Decode.{means, readOperand, fromBytes}
 use Rattle.inst.proofs.Laws.{is-form, not-form}
 use Rattle.inst_decode.proofs.Laws.{from-operand}
 use borrow.Author.Needs.{needs}
-use Rattle.inst_decode.proofs.from_bytes.Statement.{statement}
-use Rattle.inst_decode.proofs.from_bytes.Tie as tie
+use Rattle.inst_decode.proofs.decode.Statement.{statement}
+use Rattle.inst_decode.proofs.decode.Tie as tie
 
 returns : tie.Need-returns
 unfolding means fromBytes
@@ -45,8 +45,8 @@ returns-6 c =
     let r = c .match .rest in
     sym (from-operand _ _ undefined (c .before .before .before .if1 .left) (not-form _ _ (c .before .form .ensures) (r .0 .0 .0 .1) (r .0 .0 .1) (r .0 .1) (r .1)))
 
-pub from-bytes-spec : {M : Type 1} → statement M
-from-bytes-spec =
+pub decode-spec : {M : Type 1} → statement M
+decode-spec =
     tie.close
     (tie.spec
     returns
