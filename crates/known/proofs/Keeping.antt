@@ -1,17 +1,23 @@
 -- What is kept of an instruction stays right. Assumes nothing.
-use Prim.Native.Nat.{ℕ, _*_, _-_, _<_, _≤_}
+use Prim.Native.Nat.{ℕ, _*_, _<_, _≤_}
 use mathlib.Core.Path.{_≡_, refl, _∙_, sym}
 use mathlib.Core.Bool.{Bool, true, false, cond, not, _&&_}
 use mathlib.Core.Logic.{_⊎_, inl, inr, ⊎-elim}
-use mathlib.Core.List.{List}
-use lib.Dec.{eqb, ltb, leb}
+use mathlib.Core.List.{List, [], _∷_}
+use lib.Dec.{eqb, ltb}
 use lib.ListN.{length, getD, set, length-set}
 use lib.Seq.{getD-set-same, getD-set-other}
-use borrow.Author.Tests.{eqb-true, eqb-false, ltb-true, leb-true}
+use borrow.Author.Tests.{eqb-true, eqb-false, ltb-true, le-ltb}
+use types.Run.{OneOf}
+use denote.Enum.Declared.{tagOf}
+use native.Mathlib.Omega.{arith}
+use Rattle.step_core.proofs.LookedUp.{the-type}
 use Rattle.inst.proofs.Laws.{and-left, and-right}
 use Rattle.inst.specs.Records.{wellFormed}
+use Rattle.step_core.specs.declared.LookedUp.{LookedUp}
+use Rattle.step_core.specs.declared.LookedUp.the-variants.{NotAsked, NoLabel, IllChain, Target}
 use Rattle.known.specs.Known.{knownLimit, unknown, looksUp, instOf, Entries, Sized}
-use Rattle.known.specs.Keeps.{isKept, KeepsJump, isPlainAt, KeepsPlain, Learnt, Learns}
+use Rattle.known.specs.Keeps.{KeepsTarget, KeepsJump, isPlainAt, KeepsPlain, Learnt, Learns}
 use Rattle.tables.specs.Tables.{numberAt}
 
 -- an array in which a slot was set or not keeps its length
@@ -32,21 +38,55 @@ module _ (P : ℕ → ℕ → ℕ → Type 0) (keys targets : List ℕ) (sized :
       let o = getD-set-other keys at i op 0 (eqb-false i at q) in
       rw (o, getD-set-other targets at i t 0 (eqb-false i at q)) (entries i l (λ w. u (o ∙ w)))
 
-  both-if : (found : ℕ) → (3 ≤ found → P op (found - 3) at) → (b : Bool) → isKept at found ≡ b →
-      Entries P (cond b (set keys at op) keys) (cond b (set targets at (found - 3)) targets)
-  both-if found k true e i l u =
-      both (ltb-true at knownLimit (and-left (ltb at knownLimit) _ e)) (found - 3)
-      (k (leb-true 3 found (and-left (leb 3 found) _ (and-right (ltb at knownLimit) _ e)))) i (eqb i at) refl l u
-  both-if found k false e i l u = entries i l u
+  both-if : (t : ℕ) → P op t at → (b : Bool) → (ltb at knownLimit && ltb t 65536) ≡ b →
+      Entries P (cond b (set keys at op) keys) (cond b (set targets at t) targets)
+  both-if t k true e i l u = both (ltb-true at knownLimit (and-left (ltb at knownLimit) _ e)) t k i (eqb i at) refl l u
+  both-if t k false e i l u = entries i l u
 
-module _ {keys targets : List ℕ} {at op : ℕ} (sized : Sized keys targets) where
-  module _ {found : ℕ} {keys' targets' : List ℕ} (q : KeepsJump keys targets at op found keys' targets') where
-    pub keeps-jump-sized : Sized keys' targets'
-    keeps-jump-sized =
-        record { keys-long = rw (q .keys-are) (same-length (isKept at found) keys at op ∙ sized .keys-long); targets-long = rw (q .targets-are) (same-length (isKept at found) targets at (found - 3) ∙ sized .targets-long) }
+-- what is kept of a jump, by what was found
+module _ {keys targets : List ℕ} {at op : ℕ} where
+  pub is-target : {found : LookedUp} {t : ℕ} {keys' targets' : List ℕ} → found ≡ Target t → KeepsTarget keys targets at op (Target t) keys' targets' → KeepsJump keys targets at op found keys' targets'
+  is-target e q = rw e (record { are = q })
 
-    pub keeps-jump : (P : ℕ → ℕ → ℕ → Type 0) → Entries P keys targets → (3 ≤ found → P op (found - 3) at) → Entries P keys' targets'
-    keeps-jump P entries k = rw (q .keys-are, q .targets-are) (both-if P keys targets sized entries at op found k (isKept at found) refl)
+  pub no-target : (found : LookedUp) → OneOf (0 ∷ 1 ∷ 2 ∷ []) (tagOf the-type found) → KeepsJump keys targets at op found keys targets
+  no-target NotAsked k = record { are = (refl, refl) }
+  no-target NoLabel k = record { are = (refl, refl) }
+  no-target IllChain k = record { are = (refl, refl) }
+  no-target (Target t) k = absurd (other k)
+    where
+      other : OneOf (0 ∷ 1 ∷ 2 ∷ []) 3 → ⊥
+      other (inl e) = omega arith
+      other (inr (inl e)) = omega arith
+      other (inr (inr e)) = omega arith
+
+  pub no-slot : (found : LookedUp) → knownLimit ≤ at → KeepsJump keys targets at op found keys targets
+  no-slot NotAsked h = record { are = (refl, refl) }
+  no-slot NoLabel h = record { are = (refl, refl) }
+  no-slot IllChain h = record { are = (refl, refl) }
+  no-slot (Target t) h = record { are = (simp (le-ltb _ _ h), simp (le-ltb _ _ h)) }
+
+-- what holds of the target that was found
+abbrev pub IfTarget : LookedUp → (ℕ → Type 0) → Type 0
+IfTarget NotAsked Q = Unit
+IfTarget NoLabel Q = Unit
+IfTarget IllChain Q = Unit
+IfTarget (Target t) Q = Q t
+
+module _ {keys targets : List ℕ} {at op : ℕ} (sized : Sized keys targets) {keys' targets' : List ℕ} where
+  pub keeps-jump-sized : (found : LookedUp) → KeepsJump keys targets at op found keys' targets' → Sized keys' targets'
+  keeps-jump-sized NotAsked q = rw (q .are .0, q .are .1) sized
+  keeps-jump-sized NoLabel q = rw (q .are .0, q .are .1) sized
+  keeps-jump-sized IllChain q = rw (q .are .0, q .are .1) sized
+  keeps-jump-sized (Target t) q =
+      let b = ltb at knownLimit && ltb t 65536 in
+      record { keys-long = rw (q .are .0) (same-length b keys at op ∙ sized .keys-long); targets-long = rw (q .are .1) (same-length b targets at t ∙ sized .targets-long) }
+
+  pub keeps-jump : (found : LookedUp) → KeepsJump keys targets at op found keys' targets' → (P : ℕ → ℕ → ℕ → Type 0) → Entries P keys targets →
+      IfTarget found (λ (t : ℕ). P op t at) → Entries P keys' targets'
+  keeps-jump NotAsked q P entries k = rw (q .are .0, q .are .1) entries
+  keeps-jump NoLabel q P entries k = rw (q .are .0, q .are .1) entries
+  keeps-jump IllChain q P entries k = rw (q .are .0, q .are .1) entries
+  keeps-jump (Target t) q P entries k = rw (q .are .0, q .are .1) (both-if P keys targets sized entries at op t k (ltb at knownLimit && ltb t 65536) refl)
 
 -- what is plain
 module _ (image xs : List ℕ) (i : ℕ) where

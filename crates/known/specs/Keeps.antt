@@ -1,12 +1,14 @@
 -- What is kept of an instruction.
-use Prim.Native.Nat.{ℕ, _-_, _*_, _<_}
+use Prim.Native.Nat.{ℕ, _*_, _<_}
 use mathlib.Core.Path.{_≡_}
 use mathlib.Core.Bool.{Bool, true, cond, not, _&&_}
 use mathlib.Core.Logic.{_⊎_}
 use mathlib.Core.List.{List}
-use lib.Dec.{ltb, leb}
+use lib.Dec.{ltb}
 use lib.ListN.{length, getD, set}
 use Rattle.inst.specs.Records.{wellFormed}
+use Rattle.step_core.specs.declared.LookedUp.{LookedUp}
+use Rattle.step_core.specs.declared.LookedUp.the-variants.{NotAsked, NoLabel, IllChain, Target}
 use Rattle.known.specs.Known.{knownLimit, looksUp, instOf}
 use Rattle.tables.specs.Tables.{numberAt}
 
@@ -15,12 +17,16 @@ pub record Keeps (keys : List ℕ) (i op : ℕ) (keys' : List ℕ) : Type 0 wher
   pub keys-are : keys' ≡ cond (ltb i knownLimit) (set keys i op) keys
 
 -- and the target that was found, if it fits 16 bits
-abbrev pub isKept : ℕ → ℕ → Bool
-isKept i found = ltb i knownLimit && (leb 3 found && ltb found 65539)
+abbrev pub KeepsTarget : (keys targets : List ℕ) → ℕ → ℕ → LookedUp → (keys' targets' : List ℕ) → Type 0
+KeepsTarget keys targets i op NotAsked keys' targets' = (keys' ≡ keys) × (targets' ≡ targets)
+KeepsTarget keys targets i op NoLabel keys' targets' = (keys' ≡ keys) × (targets' ≡ targets)
+KeepsTarget keys targets i op IllChain keys' targets' = (keys' ≡ keys) × (targets' ≡ targets)
+KeepsTarget keys targets i op (Target t) keys' targets' =
+    let b = ltb i knownLimit && ltb t 65536 in
+    (keys' ≡ cond b (set keys i op) keys) × (targets' ≡ cond b (set targets i t) targets)
 
-pub record KeepsJump (keys targets : List ℕ) (i op found : ℕ) (keys' targets' : List ℕ) : Type 0 where
-  pub keys-are : keys' ≡ cond (isKept i found) (set keys i op) keys
-  pub targets-are : targets' ≡ cond (isKept i found) (set targets i (found - 3)) targets
+pub record KeepsJump (keys targets : List ℕ) (i op : ℕ) (found : LookedUp) (keys' targets' : List ℕ) : Type 0 where
+  pub are : KeepsTarget keys targets i op found keys' targets'
 
 -- an instruction of the table xs that needs no lookup, with a well-formed record
 unfoldable pub isPlainAt : List ℕ → List ℕ → ℕ → Bool

@@ -12,7 +12,7 @@ use Rattle.tables.specs.Tables.{numberAt, inst, instsOf}
 
 -- so many instructions can be known, from the first on; and the key of one that isn't
 abbrev pub knownLimit : ℕ
-knownLimit = 4096
+knownLimit = 4080
 
 abbrev pub unknown : ℕ
 unknown = 255

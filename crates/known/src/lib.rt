@@ -13,10 +13,11 @@ ghost use Rattle.known.specs.Known.{knownLimit, looksUp, instOf};
 ghost use Rattle.known.specs.Keeps.{Keeps, KeepsJump, KeepsPlain, Learns};
 use inst::Inst;
 use inst::TABLE_SIZE;
+use step_core::LookedUp;
 use tables::number_at;
 
 // So many instructions can be known, from the first on.
-pub const KNOWN_LIMIT: usize = 4096;
+pub const KNOWN_LIMIT: usize = 4080;
 
 // The key of an instruction that isn't known.
 pub const UNKNOWN: u8 = 255;
@@ -60,15 +61,15 @@ pub fn keep_jump(
     targets: &mut [u16; KNOWN_LIMIT],
     at: usize,
     op: u64,
-    found: u64,
+    found: LookedUp,
 )
     requires { ⌜ op < 256 ⌝ }
     ensures { λ _. ⌜ KeepsJump (now (keys .entry)) (now (targets .entry)) at op found (now (keys .exit)) (now (targets .exit)) ⌝ }
 {
     if at < KNOWN_LIMIT {
-        if 3 <= found {
-            if found < 65539 {
-                targets[at] = (found - 3) as u16;
+        if let LookedUp::Target(t) = found {
+            if t < 65536 {
+                targets[at] = t as u16;
                 keys[at] = op as u8;
             }
         }

@@ -14,6 +14,7 @@ use Rattle.machine.specs.Lookup.{Program}
 use Rattle.machine.specs.Run as definition
 use Rattle.tables.specs.Tables.{instsOf}
 use Rattle.step_core.specs.declared.Core.{Core}
+use Rattle.step_core.specs.declared.LookedUp.{LookedUp}
 use Rattle.step_core.specs.Parts.{whole}
 use Rattle.lookup.specs.Walks.{lent, Finds}
 use Rattle.known.specs.Known.{knownLimit, unknown}
@@ -72,7 +73,7 @@ module _ (image insts : List ℕ) (labels : List Label) (count limit : ℕ) (m :
       pub is-ready : Ready insts count (t .o) (t .dumps) (t .keys) (t .targets)
       is-ready = ready (t .stands) on
 
-      module _ (found : ℕ) (finds : (is : List Inst) → Finds (lent image is labels count) (t .o .start) (t .o .len) found)
+      module _ (found : LookedUp) (finds : (is : List Inst) → Finds (lent image is labels count) (t .o .start) (t .o .len) found)
           (r : Progress) (dumps stack calls memory keys targets : List ℕ) (long : length dumps ≡ length (t .dumps))
           (led : Advances image insts count (t .o) found (t .dumps) (t .keys) (t .targets) (t .stack) (t .calls) (t .memory) r dumps keys targets stack calls memory) where
         abbrev pub onward : State

@@ -16,10 +16,10 @@ use run::begin;
 use run::pack;
 use run::steps;
 use step_core::Core;
+use step_core::LookedUp;
 
-// What the lookup of a name finds, in crate lookup's numbers: 1 no such label in the program, 2 a chain that 34 names, 3 + t
-// the target t; 0 where the name doesn't lie in the image.
-pub fn lookup(image: &[u8], labels: &[Label], count: usize, start: u64, len: u64) -> u64
+// What the lookup of a name answers, as crate lookup's.
+pub fn lookup(image: &[u8], labels: &[Label], count: usize, start: u64, len: u64) -> LookedUp
     ensures { λ r. ⌜ ((insts : List Inst) → Finds (lent (now (image .entry)) insts (now (labels .entry)) count) start len r) ⌝ }
 {
     let mut w = lookup::begin(image, labels.len(), start, len);

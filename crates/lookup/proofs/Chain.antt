@@ -1,5 +1,5 @@
 -- The walk along the label chain record by record. Assumes nothing.
-use Prim.Native.Nat.{ℕ, zero, suc, _≤_, _<_, _-_, _+_, _^_}
+use Prim.Native.Nat.{ℕ, zero, suc, _≤_, _<_, _-_}
 use mathlib.Core.Path.{_≡_, refl, _∙_, sym, ap}
 use mathlib.Core.Bool.{Bool, true, false, cond, _&&_}
 use mathlib.Core.List.{List, [], _∷_}
@@ -12,38 +12,40 @@ use Rattle.inst.proofs.Laws.{never}
 use Rattle.machine.specs.declared.Label.{Label}
 use Rattle.machine.specs.Load.{same, nameOf, head}
 use Rattle.machine.specs.Lookup.{Program, illChain, noLabel, leadsTo, labelAt, inProgram, walk, lookup, lookupFrom}
-use Rattle.step_core.specs.Parts.{foundOf}
+use Rattle.step_core.specs.declared.LookedUp.{LookedUp}
+use Rattle.step_core.specs.declared.LookedUp.the-variants.{NotAsked, NoLabel, Target}
+use Rattle.step_core.specs.Parts.{foundOf, isAsked}
 use Rattle.lookup.specs.declared.Walk.{Walk}
 use Rattle.lookup.specs.Walks.{Finds, GoesOn, Walks}
 
-pub found-none : foundOf 1 ≡ noLabel
-unfolding foundOf
-found-none = refl
+-- a label's target, if it is in the program
+program-by : (b : Bool) (t : ℕ) → (isAsked (cond b (Target t) NoLabel) ≡ true) × (foundOf (cond b (Target t) NoLabel) ≡ cond b (leadsTo t) noLabel)
+program-by true t = (refl, refl)
+program-by false t = (refl, refl)
 
-pub found-ill : foundOf 2 ≡ illChain
-unfolding foundOf
-found-ill = refl
+module _ (t count : ℕ) {r : LookedUp} (e : r ≡ cond (ltb t count) (Target t) NoLabel) where
+  pub program-asked : isAsked r ≡ true
+  program-asked = ap isAsked e ∙ program-by (ltb t count) t .0
 
-pub found-at : (t : ℕ) → foundOf (t + 3) ≡ leadsTo t
-unfolding foundOf
-found-at t = let e : t + 3 - 3 ≡ t = omega arith in simp (ne-eqb (t + 3) 1 (λ q. omega arith), ne-eqb (t + 3) 2 (λ q. omega arith), e)
+  pub program-found : foundOf r ≡ cond (ltb t count) (leadsTo t) noLabel
+  program-found = ap foundOf e ∙ program-by (ltb t count) t .1
 
 abbrev name : Program → ℕ → ℕ → List ℕ
 name p start len = part (p .image) start len
 
 -- a walk that is over
-module _ (p : Program) (start len r : ℕ) where
+module _ (p : Program) (start len : ℕ) (r : LookedUp) where
   pub over : Finds p start len r → Walks p start len (record { on = false; at = 0; bound = 0; answer = r })
   over f =
       record { lies = λ e. never e; inside = λ e. never e; at-head = λ e. never e; further = λ e. never e; answered = λ e. f }
 
-  pub no-name : nameIn (p .image) start len ≡ false → r ≡ 0 → Finds p start len r
+  pub no-name : nameIn (p .image) start len ≡ false → r ≡ NotAsked → Finds p start len r
   no-name n z = record { outside = λ e. z; some = λ e. never (sym n ∙ e); found = λ e. never (sym n ∙ e) }
 
-  module _ (n : nameIn (p .image) start len ≡ true) (some : 0 < r) where
-    pub finds : (p .count + 3 < 2 ^ 64 → foundOf r ≡ lookupFrom p (name p start len) (p .labels)) → Finds p start len r
+  module _ (n : nameIn (p .image) start len ≡ true) (some : isAsked r ≡ true) where
+    pub finds : foundOf r ≡ lookupFrom p (name p start len) (p .labels) → Finds p start len r
     unfolding lookup
-    finds e = record { outside = λ q. never (sym q ∙ n); some = λ q. some; found = λ q b typ val. e b }
+    finds e = record { outside = λ q. never (sym q ∙ n); some = λ q. some; found = λ q typ val. e }
 
 -- from one record on
 module _ (p : Program) (start len bound i : ℕ) (g : GoesOn p start len bound i) where
@@ -134,15 +136,15 @@ module _ (p : Program) (start len : ℕ) (w : Walk) (l : Label) (e : labelAt p (
           is = sym (headed true t);
         })
 
-    pub head-ill : (eqb (l .start) 0 && eqb (l .len) 0 && eqb (l .target) 0) ≡ false → foundOf 2 ≡ lookupFrom p (name p start len) (p .labels)
-    head-ill t = found-ill ∙ sym (headed false t)
+    pub head-ill : (eqb (l .start) 0 && eqb (l .len) 0 && eqb (l .target) 0) ≡ false → illChain ≡ lookupFrom p (name p start len) (p .labels)
+    head-ill t = sym (headed false t)
 
   module _ (z : w .at ≡ 0 → ⊥) where
     pub chain-on : nameIn (p .image) (l .start) (l .len) ≡ true → same (name p start len) (nameOf (p .image) l) ≡ false → GoesOn p start len (w .bound) (l .next)
     chain-on n m = let f = inv .further o z in rw (f .0) (on p start len (f .1) (w .at) (f .3) z (f .2) l e n m)
 
-    pub chain-out : nameIn (p .image) (l .start) (l .len) ≡ false → foundOf 2 ≡ lookupFrom p (name p start len) (p .labels)
-    chain-out n = let f = inv .further o z in found-ill ∙ sym (out p start len (f .1) (w .at) (f .3) z (f .2) l e n)
+    pub chain-out : nameIn (p .image) (l .start) (l .len) ≡ false → illChain ≡ lookupFrom p (name p start len) (p .labels)
+    chain-out n = let f = inv .further o z in sym (out p start len (f .1) (w .at) (f .3) z (f .2) l e n)
 
     pub chain-found : nameIn (p .image) (l .start) (l .len) ≡ true → same (name p start len) (nameOf (p .image) l) ≡ true →
         inProgram p (l .target) ≡ lookupFrom p (name p start len) (p .labels)
@@ -150,7 +152,7 @@ module _ (p : Program) (start len : ℕ) (w : Walk) (l : Label) (e : labelAt p (
 
 -- a walk that goes on to the index i
 pub goes-to : (p : Program) (start len bound i : ℕ) → nameIn (p .image) start len ≡ true → GoesOn p start len bound i → (i ≡ 0 → ⊥) → i < bound →
-    Walks p start len (record { on = true; at = i; bound = i; answer = 0 })
+    Walks p start len (record { on = true; at = i; bound = i; answer = NotAsked })
 goes-to p start len bound i n g z h =
     record {
       lies = λ e. n;
@@ -162,7 +164,7 @@ goes-to p start len bound i n g z h =
 
 -- a walk that begins
 pub begins : (p : Program) (start len records : ℕ) → nameIn (p .image) start len ≡ true → length (p .labels) ≡ records → 0 < records →
-    Walks p start len (record { on = true; at = 0; bound = records; answer = 0 })
+    Walks p start len (record { on = true; at = 0; bound = records; answer = NotAsked })
 begins p start len records n e h =
     record {
       lies = λ q. n;

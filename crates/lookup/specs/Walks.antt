@@ -1,5 +1,5 @@
--- What a lookup's number says, and where a walk along the label chain stands.
-use Prim.Native.Nat.{ℕ, _+_, _≤_, _<_, _^_}
+-- What a lookup's answer says, and where a walk along the label chain stands.
+use Prim.Native.Nat.{ℕ, _≤_, _<_}
 use mathlib.Core.Path.{_≡_}
 use mathlib.Core.Bool.{true, false}
 use mathlib.Core.List.{List}
@@ -9,18 +9,20 @@ use Rattle.inst.specs.Records.{part, nameIn}
 use Rattle.machine.specs.declared.Label.{Label}
 use Rattle.machine.specs.Load.{head}
 use Rattle.machine.specs.Lookup.{Program, walk, lookupFrom, lookup}
-use Rattle.step_core.specs.Parts.{foundOf}
+use Rattle.step_core.specs.declared.LookedUp.{LookedUp}
+use Rattle.step_core.specs.declared.LookedUp.the-variants.{NotAsked}
+use Rattle.step_core.specs.Parts.{foundOf, isAsked}
 use Rattle.lookup.specs.declared.Walk.{Walk}
 
 -- what a run is lent, the labels as records
 abbrev pub lent : List ℕ → List Inst → List Label → ℕ → Program
 lent image insts labels count = record { image = image; insts = insts; labels = labels; count = count }
 
--- the number r for the name at `start`: 0 where it doesn't lie in the image, else what its lookup finds (a target and 3 must fit)
-pub record Finds (p : Program) (start len r : ℕ) : Type 0 where
-  pub outside : nameIn (p .image) start len ≡ false → r ≡ 0
-  pub some : nameIn (p .image) start len ≡ true → 0 < r
-  pub found : nameIn (p .image) start len ≡ true → p .count + 3 < 2 ^ 64 → (typ val : ℕ) →
+-- the answer r for the name at `start`: not asked where it doesn't lie in the image, else what its lookup finds
+pub record Finds (p : Program) (start len : ℕ) (r : LookedUp) : Type 0 where
+  pub outside : nameIn (p .image) start len ≡ false → r ≡ NotAsked
+  pub some : nameIn (p .image) start len ≡ true → isAsked r ≡ true
+  pub found : nameIn (p .image) start len ≡ true → (typ val : ℕ) →
       foundOf r ≡ lookup p (record { typ = typ; val = val; start = start; len = len })
 
 -- the lookup of this name goes on to the index i, which must be below `bound`

@@ -3,21 +3,21 @@
 ghost use mathlib.Core.Path.{_≡_};
 ghost use mathlib.Core.Bool.{true, false, cond, _&&_};
 ghost use mathlib.Core.List.{List};
-ghost use Prim.Native.Nat.{ℕ, _+_, _≤_, _<_, _^_};
+ghost use Prim.Native.Nat.{ℕ, _+_, _≤_, _<_};
 ghost use lib.Dec.{eqb, ltb};
 ghost use lib.ListN.{length};
 ghost use Rattle.inst.specs.declared.Inst.{Inst};
 ghost use Rattle.inst.specs.Records.{nameIn};
 ghost use Rattle.machine.specs.declared.Label.{Label};
-ghost use Rattle.machine.specs.Lookup.{leadsTo, noLabel};
 ghost use Rattle.tables.specs.Tables.{labelsOf};
-ghost use Rattle.step_core.specs.Parts.{foundOf};
+ghost use Rattle.step_core.specs.declared.LookedUp.the-variants.{NoLabel, Target};
 ghost use Rattle.lookup.specs.Walks.{lent, Finds, GoesOn, Walks, Judges};
 
 mod names;
 
 use crate::names::matches;
 use machine::Label;
+use step_core::LookedUp;
 use tables::RECORD;
 use tables::label_at;
 
@@ -26,10 +26,10 @@ pub struct Walk {
     pub on: bool,
     pub at: usize,
     pub bound: usize,
-    pub answer: u64,
+    pub answer: LookedUp,
 }
 
-fn answers(answer: u64) -> Walk
+fn answers(answer: LookedUp) -> Walk
     ensures { λ r. ⌜ r ≡ record { on = false; at = 0; bound = 0; answer = answer } ⌝ }
 {
     Walk {
@@ -45,17 +45,17 @@ fn goes_on(next: u64, bound: usize) -> Walk
     ensures { λ r. ⌜ ((image : List ℕ) (insts : List Inst) (labels : List Label) (count start len : ℕ) → nameIn image start len ≡ true → GoesOn (lent image insts labels count) start len bound next → Walks (lent image insts labels count) start len r × (r .bound < bound)) ⌝ }
 {
     if next == 0 {
-        return answers(1);
+        return answers(LookedUp::NoLabel);
     }
     if next < bound as u64 {
         Walk {
             on: true,
             at: next as usize,
             bound: next as usize,
-            answer: 0,
+            answer: LookedUp::NotAsked,
         }
     } else {
-        answers(2) // past the table, or not below the index before
+        answers(LookedUp::IllChain) // past the table, or not below the index before
     }
 }
 
@@ -70,14 +70,14 @@ fn is_head(l: Label) -> bool
     }
 }
 
-// A target in the program as 3 + t, or 1. A sum that doesn't fit is no answer of a table that fits a slice.
-fn in_program(count: usize, t: u64) -> u64
-    ensures { λ r. ⌜ (0 < r) × (count + 3 < 2 ^ 64 → foundOf r ≡ cond (ltb t count) (leadsTo t) noLabel) ⌝ }
+// A label's target, if it is in the program.
+fn in_program(count: usize, t: u64) -> LookedUp
+    ensures { λ r. ⌜ r ≡ cond (ltb t count) (Target t) NoLabel ⌝ }
 {
     if t < count as u64 {
-        if t < 0xFFFFFFFFFFFFFFFD { t + 3 } else { 1 }
+        LookedUp::Target(t as usize)
     } else {
-        1
+        LookedUp::NoLabel
     }
 }
 
@@ -90,7 +90,7 @@ pub fn judge(image: &[u8], count: usize, w: Walk, l: Label, start: u64, len: u64
         if is_head(l) {
             return goes_on(l.next, w.bound);
         }
-        return answers(2);
+        return answers(LookedUp::IllChain);
     }
     if inst::name_in(image, l.start, l.len) {
         if matches(image, start, len, l.start, l.len) {
@@ -98,7 +98,7 @@ pub fn judge(image: &[u8], count: usize, w: Walk, l: Label, start: u64, len: u64
         }
         return goes_on(l.next, w.bound);
     }
-    answers(2)
+    answers(LookedUp::IllChain)
 }
 
 // A walk from the head of a table of so many records. An empty table is 34: the head's index 0 is past it.
@@ -111,19 +111,18 @@ pub fn begin(image: &[u8], records: usize, start: u64, len: u64) -> Walk
                 on: true,
                 at: 0,
                 bound: records,
-                answer: 0,
+                answer: LookedUp::NotAsked,
             }
         } else {
-            answers(2)
+            answers(LookedUp::IllChain)
         }
     } else {
-        answers(0)
+        answers(LookedUp::NotAsked)
     }
 }
 
-// What the lookup of a name finds: 1 no such label in the program, 2 a chain that 34 names, 3 + t the target t. 0 says that
-// the name doesn't lie in the image, so that no jump has it.
-pub fn lookup(image: &[u8], labels: &[u8], count: usize, start: u64, len: u64) -> u64
+// What the lookup of a name answers: NotAsked where the name doesn't lie in the image, so that no jump has it.
+pub fn lookup(image: &[u8], labels: &[u8], count: usize, start: u64, len: u64) -> LookedUp
     ensures { λ r. ⌜ ((insts : List Inst) → Finds (lent (now (image .entry)) insts (labelsOf (now (labels .entry))) count) start len r) ⌝ }
 {
     let mut w = begin(image, labels.len() / RECORD, start, len);

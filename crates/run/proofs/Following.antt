@@ -22,8 +22,8 @@ use Rattle.step_core.specs.declared.Executed.the-variants.{Next, Compared, Dump
 use Rattle.step_core.specs.Parts.{whole, Inside}
 use Rattle.quick.proofs.Turns.{before-ill, before-full, before-on}
 use Rattle.step.specs.declared.Tried.{Tried}
-use Rattle.run.specs.declared.progress.Turn.{Turn}
-use Rattle.run.specs.declared.progress.Turn.the-variants.{Go, End}
+use Rattle.run.specs.declared.follows.Turn.{Turn}
+use Rattle.run.specs.declared.follows.Turn.the-variants.{Go, End}
 use Rattle.run.specs.Turns.{more, turned, Fills, Follows, FollowsTry, ending}
 use Rattle.run.proofs.Courses.{more-next, more-dump, more-ended, more-last, took, cell-written}
 

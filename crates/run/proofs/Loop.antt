@@ -1,12 +1,10 @@
 -- The loop of `steps`: what it keeps, and how it ends. Assumes nothing.
-use Prim.Native.Nat.{ℕ, _*_, _≤_, _<_, _-_, _+_, _^_}
+use Prim.Native.Nat.{ℕ, _*_, _≤_, _<_, _-_, _+_}
 use mathlib.Core.Path.{_≡_, refl, _∙_, sym, ap}
 use mathlib.Core.Bool.{Bool, true, false, cond}
 use mathlib.Core.List.{List}
 use native.Mathlib.Omega.{arith}
-use lib.Dec.{eqb}
 use lib.ListN.{length}
-use borrow.Author.Tests.{eq-eqb, ne-eqb}
 use Rattle.inst.specs.Records.{nameIn}
 use Rattle.inst.proofs.Laws.{never}
 use Rattle.machine.specs.declared.Label.{Label}
@@ -14,7 +12,9 @@ use Rattle.machine.specs.Lookup.{lookup}
 use Rattle.machine.specs.Run.{Course}
 use Rattle.tables.specs.Tables.{instsOf}
 use Rattle.step_core.specs.declared.Core.{Core}
-use Rattle.step_core.specs.Parts.{whole, Inside, foundOf}
+use Rattle.step_core.specs.declared.LookedUp.{LookedUp}
+use Rattle.step_core.specs.declared.LookedUp.the-variants.{NotAsked}
+use Rattle.step_core.specs.Parts.{whole, Inside, foundOf, isAsked}
 use Rattle.lookup.specs.Walks.{lent}
 use Rattle.quick.specs.declared.Reached.{Reached}
 use Rattle.known.specs.Known.{instOf, Sized, Listed}
@@ -23,34 +23,33 @@ use Rattle.step.specs.declared.Tried.{Tried}
 use Rattle.step.specs.declared.Tried.the-variants.{Done, Asks}
 use Rattle.step.specs.Steps.{Told, Tries}
 use Rattle.run.specs.declared.progress.Progress.{Progress}
-use Rattle.run.specs.declared.progress.Turn.{Turn}
-use Rattle.run.specs.declared.progress.Turn.the-variants.{Go, End}
+use Rattle.run.specs.declared.follows.Turn.{Turn}
+use Rattle.run.specs.declared.follows.Turn.the-variants.{Go, End}
 use Rattle.run.specs.Turns.{FollowsTry, ending}
 use Rattle.run.specs.Runs.{Running, Stands, weight, Advances}
 use Rattle.run.proofs.Running.{is-over, known-on, went, ended-by, off, stands-over}
 
 -- the weight that a run has at first, with what was found
-abbrev first : ℕ → ℕ → ℕ
-first left asked = left + cond (eqb asked 0) 2 1
+abbrev first : ℕ → LookedUp → ℕ
+first left asked = left + cond (isAsked asked) 1 2
 
 -- From c₀, f₀ and so on, at which `asked` was found, the loop has come to c, f and so on. Whatever the labels are: if the run stood there, it stands here
-pub record Loops (image xs : List ℕ) (count : ℕ) (c₀ : Core) (f₀ left₀ n₀ asked : ℕ) (b₀ keys₀ targets₀ s₀ ca₀ me₀ : List ℕ)
-    (c : Core) (f left n found : ℕ) (b keys targets s ca me : List ℕ) : Type 0 where
-  pub fits : count + 3 < 2 ^ 64
+pub record Loops (image xs : List ℕ) (count : ℕ) (c₀ : Core) (f₀ left₀ n₀ : ℕ) (asked : LookedUp) (b₀ keys₀ targets₀ s₀ ca₀ me₀ : List ℕ)
+    (c : Core) (f left n : ℕ) (found : LookedUp) (b keys targets s ca me : List ℕ) : Type 0 where
   pub small : Inside c
   pub filled : n * 8 ≤ length b
   pub long : length b ≡ length b₀
   pub sized : Sized keys targets
   pub listed : Listed xs keys targets
   pub fewer : left ≤ left₀
-  pub lighter : found ≡ 0 → left + 1 < first left₀ asked
+  pub lighter : isAsked found ≡ false → left + 1 < first left₀ asked
   pub runs : (labels : List Label) (buffer : List ℕ) (limit : ℕ) (run : Course) →
       Running (lent image (instsOf xs) labels count) xs buffer limit run c₀ f₀ left₀ n₀ b₀ keys₀ targets₀ s₀ ca₀ me₀ →
       Told (lent image (instsOf xs) labels count) xs (c₀ .ip) asked →
       Running (lent image (instsOf xs) labels count) xs buffer limit run c f left n b keys targets s ca me × Told (lent image (instsOf xs) labels count) xs (c .ip) found
 
 -- it ended with r
-pub record Stops (image xs : List ℕ) (count : ℕ) (c₀ : Core) (f₀ left₀ n₀ asked : ℕ) (b₀ keys₀ targets₀ s₀ ca₀ me₀ : List ℕ)
+pub record Stops (image xs : List ℕ) (count : ℕ) (c₀ : Core) (f₀ left₀ n₀ : ℕ) (asked : LookedUp) (b₀ keys₀ targets₀ s₀ ca₀ me₀ : List ℕ)
     (r : Progress) (b keys targets s ca me : List ℕ) : Type 0 where
   pub stops : (labels : List Label) (buffer : List ℕ) (limit : ℕ) (run : Course) →
       Running (lent image (instsOf xs) labels count) xs buffer limit run c₀ f₀ left₀ n₀ b₀ keys₀ targets₀ s₀ ca₀ me₀ →
@@ -79,28 +78,27 @@ module _ {c : Core} {f left n : ℕ} {b b' : List ℕ} where
   end-long (Asks start len) q = ap length (q .followed .1)
 
 module _ {image xs : List ℕ} {count : ℕ} where
-  pub loop-starts : (c : Core) (f left n asked : ℕ) (b keys targets s ca me : List ℕ) → count + 3 < 2 ^ 64 → Inside c → n * 8 ≤ length b → Sized keys targets →
+  pub loop-starts : (c : Core) (f left n : ℕ) (asked : LookedUp) (b keys targets s ca me : List ℕ) → Inside c → n * 8 ≤ length b → Sized keys targets →
       Listed xs keys targets →
       Loops image xs count c f left n asked b keys targets s ca me c f left n asked b keys targets s ca me
-  loop-starts c f left n asked b keys targets s ca me fits small filled sized listed =
+  loop-starts c f left n asked b keys targets s ca me small filled sized listed =
       record {
-        fits = fits;
         small = small;
         filled = filled;
         long = refl;
         sized = sized;
         listed = listed;
         fewer = omega arith;
-        lighter = λ z. rw (eq-eqb asked 0 z) (omega arith);
+        lighter = λ z. rw z (omega arith);
         runs = λ labels buffer limit run r told. (r, told);
       }
 
-  module _ {c₀ : Core} {f₀ left₀ n₀ asked : ℕ} {b₀ keys₀ targets₀ s₀ ca₀ me₀ : List ℕ} {c : Core} {f left n found : ℕ} {b keys targets s ca me : List ℕ}
+  module _ {c₀ : Core} {f₀ left₀ n₀ : ℕ} {asked : LookedUp} {b₀ keys₀ targets₀ s₀ ca₀ me₀ : List ℕ} {c : Core} {f left n : ℕ} {found : LookedUp} {b keys targets s ca me : List ℕ}
       (inv : Loops image xs count c₀ f₀ left₀ n₀ asked b₀ keys₀ targets₀ s₀ ca₀ me₀ c f left n found b keys targets s ca me) where
     some-weight : left < first left₀ asked
-    some-weight = by (eqb asked 0)
+    some-weight = by (isAsked asked)
       where
-        by : (x : Bool) → left < left₀ + cond x 2 1
+        by : (x : Bool) → left < left₀ + cond x 1 2
         by true = omega (arith, inv .fewer)
         by false = omega (arith, inv .fewer)
 
@@ -114,12 +112,11 @@ module _ {image xs : List ℕ} {count : ℕ} where
       pub loop-on : (t : Tried) {on : Core} {g n' : ℕ} {r : Reached} {s2 ca2 me2 : List ℕ} →
           Tries image xs count c f found keys targets s ca me t keys' targets' s' ca' me' → FollowsTry t c f left n b b' (Go on g n') →
           quick.Leads xs keys' targets' (whole on g s' ca' me' false) (left - 1) r s2 ca2 me2 →
-          Loops image xs count c₀ f₀ left₀ n₀ asked b₀ keys₀ targets₀ s₀ ca₀ me₀ (r .core) (r .flags) (r .left) n' 0 b' keys' targets' s2 ca2 me2
+          Loops image xs count c₀ f₀ left₀ n₀ asked b₀ keys₀ targets₀ s₀ ca₀ me₀ (r .core) (r .flags) (r .left) n' NotAsked b' keys' targets' s2 ca2 me2
       loop-on (Asks start len) tries q k = absurd (not-go (q .followed .0))
       loop-on (Done a) tries q k =
           let fills = q .followed .followed .2 in
           record {
-            fits = inv .fits;
             small = k .small;
             filled = omega (arith, fills .filled, fills .long);
             long = fills .long ∙ inv .long;
@@ -130,7 +127,7 @@ module _ {image xs : List ℕ} {count : ℕ} where
             runs = λ labels buffer limit run r told.
                 let now = inv .runs labels buffer limit run r told in
                 let made = tries .tried labels (now .1) in
-                (known-on (went (now .0) l (made .0) (tries .sized) (made .1) (q .followed)) k, λ some. absurd (omega arith));
+                (known-on (went (now .0) l (made .0) (tries .sized) (made .1) (q .followed)) k, λ some. never some);
           }
 
       -- a step, and the end; or a question
@@ -155,15 +152,15 @@ module _ {image xs : List ℕ} {count : ℕ} where
           })
 
   -- the contract of `steps`
-  pub advances : {o : Progress} {asked : ℕ} {b keys targets s ca me : List ℕ} {r : Progress} {b' keys' targets' s' ca' me' : List ℕ} → count + 3 < 2 ^ 64 →
+  pub advances : {o : Progress} {asked : LookedUp} {b keys targets s ca me : List ℕ} {r : Progress} {b' keys' targets' s' ca' me' : List ℕ} →
       Stops image xs count (o .core) (o .flags) (o .left) (o .dumped) asked b keys targets s ca me r b' keys' targets' s' ca' me' →
       Advances image xs count o asked b keys targets s ca me r b' keys' targets' s' ca' me'
-  advances {o} {asked} {b} {keys} {targets} {s} {ca} {me} {r} fits q labels buffer limit run on st fd =
+  advances {o} {asked} {b} {keys} {targets} {s} {ca} {me} {r} q labels buffer limit run on st fd =
       record { stands = q .stops labels buffer limit run (st .running on) told .0; falls = by (nameIn image (o .start) (o .len)) (r .on) refl refl }
     where
-      which : 0 < asked → (x : Bool) → nameIn image (o .start) (o .len) ≡ x → foundOf asked ≡ lookup (lent image (instsOf xs) labels count) (instOf xs (o .core .ip))
-      which some true e = let n = st .named on e in rw (n .0, n .1) (fd .found e fits _ _)
-      which some false e = absurd (omega (arith, fd .outside e))
+      which : isAsked asked ≡ true → (x : Bool) → nameIn image (o .start) (o .len) ≡ x → foundOf asked ≡ lookup (lent image (instsOf xs) labels count) (instOf xs (o .core .ip))
+      which some true e = let n = st .named on e in rw (n .0, n .1) (fd .found e _ _)
+      which some false e = never (sym (ap isAsked (fd .outside e)) ∙ some)
 
       told : Told (lent image (instsOf xs) labels count) xs (o .core .ip) asked
       told some = which some (nameIn image (o .start) (o .len)) refl
@@ -173,9 +170,7 @@ module _ {image xs : List ℕ} {count : ℕ} where
       by false false e d = rw (on, e, d) (omega arith)
       by true true e d =
           let lighter = q .stops labels buffer limit run (st .running on) told .1 d in
-          let z : eqb asked 0 ≡ false = ne-eqb asked 0 (λ w. omega (arith, fd .some e)) in
-          rw (on, e, d, lighter .0) (omega (arith, rw z at (lighter .1)))
+          rw (on, e, d, lighter .0) (omega (arith, rw (fd .some e) at (lighter .1)))
       by false true e d =
           let lighter = q .stops labels buffer limit run (st .running on) told .1 d in
-          let z : eqb asked 0 ≡ true = eq-eqb asked 0 (fd .outside e) in
-          rw (on, e, d, lighter .0) (omega (arith, rw z at (lighter .1)))
+          rw (on, e, d, lighter .0) (omega (arith, rw (ap isAsked (fd .outside e)) at (lighter .1)))

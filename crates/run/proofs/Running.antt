@@ -20,7 +20,7 @@ use Rattle.quick.specs.Courses as quick
 use Rattle.quick.proofs.Turns.{course-turn}
 use Rattle.step.specs.Steps.{Made}
 use Rattle.run.specs.declared.progress.Progress.{Progress}
-use Rattle.run.specs.declared.progress.Turn.the-variants.{Go, End}
+use Rattle.run.specs.declared.follows.Turn.the-variants.{Go, End}
 use Rattle.run.specs.Turns.{more, closed, turned, Follows, ending, IsOver}
 use Rattle.run.specs.Runs.{Running, Reaches, Stands, Ready}
 use Rattle.run.proofs.Courses.{more-plus, more-ended, spends, resting}

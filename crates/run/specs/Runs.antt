@@ -14,6 +14,7 @@ use Rattle.machine.specs.Step.{wellState}
 use Rattle.machine.specs.Run.{Course, Result, course}
 use Rattle.tables.specs.Tables.{numbersIn, bytesOf, instsOf, program}
 use Rattle.step_core.specs.declared.Core.{Core}
+use Rattle.step_core.specs.declared.LookedUp.{LookedUp}
 use Rattle.step_core.specs.Parts.{whole, Inside}
 use Rattle.lookup.specs.Walks.{lent, Finds}
 use Rattle.known.specs.Known.{knownLimit, unknown, Known, Sized, Listed, Over}
@@ -76,7 +77,7 @@ pub record Leads (p : Program) (xs b₀ : List ℕ) (limit : ℕ) (run : Course)
   pub falls : weight (p .image) r < weight (p .image) o
 
 -- whatever the labels are, if `found` is what the lookup of the name asked for finds in them
-abbrev pub Advances : List ℕ → List ℕ → ℕ → Progress → ℕ → List ℕ → List ℕ → List ℕ → List ℕ → List ℕ → List ℕ → Progress → List ℕ → List ℕ → List ℕ → List ℕ → List ℕ → List ℕ → Type 0
+abbrev pub Advances : List ℕ → List ℕ → ℕ → Progress → LookedUp → List ℕ → List ℕ → List ℕ → List ℕ → List ℕ → List ℕ → Progress → List ℕ → List ℕ → List ℕ → List ℕ → List ℕ → List ℕ → Type 0
 Advances image xs count o found b keys targets s ca me r b' keys' targets' s' ca' me' =
     (labels : List Label) (b₀ : List ℕ) (limit : ℕ) (run : Course) →
     o .on ≡ true →

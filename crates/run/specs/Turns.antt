@@ -18,8 +18,8 @@ use Rattle.step_core.specs.Parts.{whole, means, Inside, Untaken}
 use Rattle.step.specs.declared.Tried.{Tried}
 use Rattle.step.specs.declared.Tried.the-variants.{Done, Asks}
 use Rattle.run.specs.declared.progress.Progress.{Progress}
-use Rattle.run.specs.declared.progress.Turn.{Turn}
-use Rattle.run.specs.declared.progress.Turn.the-variants.{Go, End}
+use Rattle.run.specs.declared.follows.Turn.{Turn}
+use Rattle.run.specs.declared.follows.Turn.the-variants.{Go, End}
 
 -- a course that comes after k steps, which dumped out
 unfoldable pub more : ℕ → List ℕ → Course → Course

@@ -8,16 +8,17 @@ ghost use Rattle.step_core.specs.Parts.{whole};
 ghost use Rattle.run.specs.Turns.{endingOf};
 ghost use Rattle.run.specs.Runs.{Begun, Ready, Advances, Fit, ExecuteParts, ExecuteProgram};
 
+mod follows;
 pub mod progress;
 
+use crate::follows::Turn;
+use crate::follows::follow;
 use crate::progress::HALTED;
 use crate::progress::LIMIT;
 use crate::progress::NUMBER;
 use crate::progress::Progress;
-use crate::progress::Turn;
 use crate::progress::asks;
 use crate::progress::ends;
-use crate::progress::follow;
 use inst::form_table;
 use known::KNOWN_LIMIT;
 use known::UNKNOWN;
@@ -30,6 +31,7 @@ use machine::STACK_LIMIT;
 use quick::run_known;
 use step::step;
 use step_core::Core;
+use step_core::LookedUp;
 use tables::RECORD;
 
 // What a run returns.
@@ -80,7 +82,7 @@ pub fn begin(
 }
 
 // The steps of a run that goes on: one step as the definition has it, then the known ones, and so on until the run is over
-// or a name must be looked up. `asked` is what was found for the name that it asked for, 0 if for none. The loop keeps:
+// or a name must be looked up. `asked` is what was found for the name that it asked for. The loop keeps:
 // - the limit less `left` steps lead to the machine of core, flags and the arrays, with dumps[..n] dumped;
 // - heights are within their limits;
 // - what crate known says of keys and targets.
@@ -89,7 +91,7 @@ pub fn steps(
     insts: &[u8],
     count: usize,
     from: Progress,
-    asked: u64,
+    asked: LookedUp,
     stack: &mut [u64; STACK_LIMIT],
     calls: &mut [u64; CALL_LIMIT],
     memory: &mut [u8; MEMORY_SIZE],
@@ -140,7 +142,7 @@ pub fn steps(
                 flags = reached.flags;
                 left = reached.left;
                 n = dumped;
-                found = 0;
+                found = LookedUp::NotAsked;
             }
             Turn::End(progress) => {
                 return progress;

@@ -6,7 +6,7 @@ use mathlib.Core.List.{List}
 use native.Mathlib.Omega.{arith}
 use lib.Dec.{eqb, leb}
 use lib.ListN.{length, getD}
-use borrow.Author.Tests.{le-leb, lt-ltb, le-ltb, ne-eqb, leb-true, eqb-true}
+use borrow.Author.Tests.{le-leb, lt-ltb, le-ltb, leb-true, eqb-true}
 use Rattle.inst.specs.Forms.{name, formOf, hasNone, hasEight, hasOne, hasName}
 use Rattle.inst.specs.Records.{nameIn, fits, wellFormed}
 use Rattle.inst.proofs.Laws.{never, and-right}
@@ -18,16 +18,21 @@ use Rattle.tables.specs.Tables.{numberAt, instsOf}
 use Rattle.step_core.specs.declared.Core.{Core}
 use Rattle.step_core.specs.declared.Executed.{Executed}
 use Rattle.step_core.specs.declared.Executed.the-variants.{Next, Compared, Dump, Halt, Trap, Ill}
+use Rattle.step_core.specs.declared.LookedUp.{LookedUp}
+use Rattle.step_core.specs.declared.LookedUp.the-variants.{NotAsked, NoLabel, IllChain, Target}
 use Rattle.step_core.specs.Parts.{foundOf, whole, Inside, Acts}
 use Rattle.lookup.specs.Walks.{lent}
 use Rattle.known.specs.Known.{looksUp, instOf, KnownAt, Over}
+use Rattle.known.proofs.Keeping.{IfTarget}
 use Rattle.known.proofs.Records.{inst-is, within}
 use Rattle.step.specs.Steps.{Made}
 
--- a target that was found
-pub found-target : (n : ℕ) → 3 ≤ n → foundOf n ≡ leadsTo (n - 3)
-unfolding foundOf
-found-target n h = rw (ne-eqb n 1 (λ e. omega arith), ne-eqb n 2 (λ e. omega arith))
+-- what holds of every target that was found
+pub at-target : (found : LookedUp) (Q : ℕ → Type 0) → ((t : ℕ) → foundOf found ≡ leadsTo t → Q t) → IfTarget found Q
+at-target NotAsked Q h = tt
+at-target NoLabel Q h = tt
+at-target IllChain Q h = tt
+at-target (Target t) Q h = h t refl
 
 -- what looks up has a name
 named-from : (k op : ℕ) → k < 9 → op ≡ 12 + k → formOf op ≡ name

@@ -1,5 +1,5 @@
 -- What the general step comes to, whatever the labels are.
-use Prim.Native.Nat.{ℕ, _+_, _*_, _<_}
+use Prim.Native.Nat.{ℕ, _+_, _*_}
 use mathlib.Core.Path.{_≡_}
 use mathlib.Core.Bool.{true, false}
 use mathlib.Core.List.{List}
@@ -12,7 +12,8 @@ use Rattle.machine.specs.Step.{Stepped, step, exec, opOf}
 use Rattle.tables.specs.Tables.{numberAt, inst, instsOf}
 use Rattle.step_core.specs.declared.Core.{Core}
 use Rattle.step_core.specs.declared.Executed.{Executed}
-use Rattle.step_core.specs.Parts.{whole, means, Small, Untaken, Acts, foundOf}
+use Rattle.step_core.specs.declared.LookedUp.{LookedUp}
+use Rattle.step_core.specs.Parts.{whole, means, Small, Untaken, Acts, foundOf, isAsked}
 use Rattle.lookup.specs.Walks.{lent}
 use Rattle.known.specs.Known.{instOf, Known, Sized, Listed}
 use Rattle.step.specs.declared.Tried.{Tried}
@@ -39,8 +40,8 @@ abbrev pub NamedAt : List ℕ → ℕ → ℕ → ℕ → Type 0
 NamedAt xs ip start len = (numberAt xs (ip * 4 + 2) ≡ start) × (numberAt xs (ip * 4 + 3) ≡ len)
 
 -- what `found` says of the instruction at the index ip: nothing, or what its lookup finds
-abbrev pub Told : Program → List ℕ → ℕ → ℕ → Type 0
-Told p xs ip found = 0 < found → foundOf found ≡ lookup p (instOf xs ip)
+abbrev pub Told : Program → List ℕ → ℕ → LookedUp → Type 0
+Told p xs ip found = isAsked found ≡ true → foundOf found ≡ lookup p (instOf xs ip)
 
 -- where a run goes on, the heights are within their limits
 abbrev pub SmallTried : Tried → Type 0
@@ -48,11 +49,11 @@ SmallTried (Done a) = Small a
 SmallTried (Asks start len) = Unit
 
 -- the definition's step; or, with nothing changed, the lookup of the instruction's name is asked for
-abbrev pub IsTried : Program → List ℕ → Core → ℕ → ℕ → List ℕ → List ℕ → List ℕ → List ℕ → List ℕ → Tried → List ℕ → List ℕ → List ℕ → List ℕ → List ℕ → Type 0
+abbrev pub IsTried : Program → List ℕ → Core → ℕ → LookedUp → List ℕ → List ℕ → List ℕ → List ℕ → List ℕ → Tried → List ℕ → List ℕ → List ℕ → List ℕ → List ℕ → Type 0
 IsTried p xs c f found keys targets s ca me (Done a) keys' targets' s' ca' me' =
     Made (step p (whole c f s ca me false)) f s ca me a s' ca' me' × (Known p xs keys targets → Known p xs keys' targets')
 IsTried p xs c f found keys targets s ca me (Asks start len) keys' targets' s' ca' me' =
-    (found ≡ 0)
+    (isAsked found ≡ false)
     × (nameIn (p .image) start len ≡ true)
     × NamedAt xs (c .ip) start len
     × (keys' ≡ keys)
@@ -61,7 +62,7 @@ IsTried p xs c f found keys targets s ca me (Asks start len) keys' targets' s' c
     × (ca' ≡ ca)
     × (me' ≡ me)
 
-pub record Tries (image xs : List ℕ) (count : ℕ) (c : Core) (f found : ℕ) (keys targets s ca me : List ℕ) (r : Tried) (keys' targets' s' ca' me' : List ℕ) : Type 0 where
+pub record Tries (image xs : List ℕ) (count : ℕ) (c : Core) (f : ℕ) (found : LookedUp) (keys targets s ca me : List ℕ) (r : Tried) (keys' targets' s' ca' me' : List ℕ) : Type 0 where
   pub small : SmallTried r
   pub sized : Sized keys' targets'
   pub listed : Listed xs keys' targets'

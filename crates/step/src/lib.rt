@@ -21,6 +21,8 @@ use machine::STACK_LIMIT;
 use step_convert::convert;
 use step_core::Core;
 use step_core::Executed;
+use step_core::LookedUp;
+use step_core::is_asked;
 use step_core::onward;
 use step_float::float_step;
 use step_flow::calls::call;
@@ -39,22 +41,25 @@ pub enum Tried {
     Asks(u64, u64),
 }
 
-// A jump or CALL, by what its lookup found.
+// A jump or CALL, by what its lookup found. Tests and not arms: the compiler copies arms into the run's loop, with a jump through a
+// table behind each.
 fn execute_jump(
     op: u64,
-    found: u64,
+    found: LookedUp,
     flags: u8,
     core: Core,
     calls: &mut [u64; CALL_LIMIT],
 ) -> Executed
-    requires { ⌜ Tested core × (0 < found) × (looksUp op ≡ true) ⌝ }
+    requires { ⌜ Tested core × (looksUp op ≡ true) ⌝ }
     ensures { λ r. ⌜ Jumps op (foundOf found) core flags (now (calls .entry)) r (now (calls .exit)) ⌝ }
 {
-    match op {
-        20 => jump(core, found),
-        28 => call(core, calls, found),
-        _ => jump_if(core, flags, op as u8, found),
+    if op == 28 {
+        return call(core, calls, found);
     }
+    if op == 20 {
+        return jump(core, found);
+    }
+    jump_if(core, flags, op as u8, found)
 }
 
 // Any other instruction. The ranges stay: with an arm for each first byte here the quick loop's code moves, and takes 1.9
@@ -91,7 +96,7 @@ fn execute_instruction(
     }
 }
 
-// The step at the pointer. `found` is what was found for its name, or 0: not looked up yet. Heights within their limits
+// The step at the pointer. `found` is what was found for its name, if it was looked up. Heights within their limits
 // and a count within its table were tested once, before the first step: no step breaks them.
 pub fn step(
     forms: &[u8; TABLE_SIZE],
@@ -102,7 +107,7 @@ pub fn step(
     targets: &mut [u16; KNOWN_LIMIT],
     flags: u8,
     core: Core,
-    found: u64,
+    found: LookedUp,
     stack: &mut [u64; STACK_LIMIT],
     calls: &mut [u64; CALL_LIMIT],
     memory: &mut [u8; MEMORY_SIZE],
@@ -120,11 +125,12 @@ pub fn step(
     }
     let op = number_at(insts, ip * 4);
     if looks_up(op) {
-        if found == 0 {
+        if !is_asked(found) {
             return Tried::Asks(number_at(insts, ip * 4 + 2), number_at(insts, ip * 4 + 3));
         }
+        let answer = execute_jump(op, found, flags, core, calls);
         keep_jump(keys, targets, ip, op, found);
-        Tried::Done(execute_jump(op, found, flags, core, calls))
+        Tried::Done(answer)
     } else {
         learn(forms, image, insts, count, keys, ip);
         Tried::Done(execute_instruction(

@@ -1,9 +1,8 @@
 -- How the parts that the code works on make up the definitions' machine, and its answers the definitions'. No behaviour is in it.
-use Prim.Native.Nat.{ℕ, _≤_, _<_, _+_, _-_, _^_}
+use Prim.Native.Nat.{ℕ, _≤_, _<_, _+_, _^_}
 use mathlib.Core.Path.{_≡_}
 use mathlib.Core.List.{List}
-use mathlib.Core.Bool.{Bool, true, false, cond}
-use lib.Dec.{eqb}
+use mathlib.Core.Bool.{Bool, true, false}
 use Rattle.machine.specs.declared.Machine.{Machine}
 use Rattle.machine.specs.Limits.{stackLimit, callLimit}
 use Rattle.machine.specs.Lookup.{Found, illChain, noLabel, leadsTo}
@@ -11,6 +10,8 @@ use Rattle.machine.specs.Step.{Stepped, succeeds, outputs, trap, ill}
 use Rattle.step_core.specs.declared.Core.{Core}
 use Rattle.step_core.specs.declared.Executed.{Executed}
 use Rattle.step_core.specs.declared.Executed.the-variants.{Next, Compared, Dump, Halt, Trap, Ill}
+use Rattle.step_core.specs.declared.LookedUp.{LookedUp}
+use Rattle.step_core.specs.declared.LookedUp.the-variants.{NotAsked, NoLabel, IllChain, Target}
 
 -- the call height; a field's name with a line in it is written in marks
 abbrev pub callHeight : Core → ℕ
@@ -96,6 +97,16 @@ OnCalls i c ca r ca' = (s me : List ℕ) → Acts i c s ca me r s ca' me
 abbrev pub OnCalling : (Machine → Stepped) → Core → List ℕ → Executed → List ℕ → Type 0
 OnCalling i c ca r ca' = (s me : List ℕ) → Does i c s ca me r s ca' me
 
--- what a lookup found, as one number: 1 no such label, 2 a chain that 34 names, 3 + t the target t
-unfoldable pub foundOf : ℕ → Found
-foundOf n = cond (eqb n 1) noLabel (cond (eqb n 2) illChain (leadsTo (n - 3)))
+-- what a lookup's answer says was found; without a lookup no jump goes anywhere, as at an ill chain
+abbrev pub foundOf : LookedUp → Found
+foundOf NotAsked = illChain
+foundOf NoLabel = noLabel
+foundOf IllChain = illChain
+foundOf (Target t) = leadsTo t
+
+-- a lookup was made
+abbrev pub isAsked : LookedUp → Bool
+isAsked NotAsked = false
+isAsked NoLabel = true
+isAsked IllChain = true
+isAsked (Target t) = true

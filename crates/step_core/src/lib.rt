@@ -3,6 +3,7 @@
 ghost use mathlib.Core.Path.{_≡_};
 ghost use Prim.Native.Nat.{_+_, _<_, _^_};
 ghost use Rattle.step_core.specs.declared.Executed.the-variants.{Next, Trap};
+ghost use Rattle.step_core.specs.Parts.{isAsked};
 
 // The numbers that nearly every step changes. All fields have eight bytes: a u8 among them would leave seven bytes of
 // padding, which the compiler then copies through memory at each step (2.2 instead of 1.6 ns a step). So the flags
@@ -22,6 +23,26 @@ pub enum Executed {
     Halt(Core),
     Trap(Core, u8),
     Ill,
+}
+
+// What a lookup of a name answers: no such label in the program, a chain that 34 names, or the target. NotAsked says that no
+// lookup was made.
+pub enum LookedUp {
+    NotAsked,
+    NoLabel,
+    IllChain,
+    Target(usize),
+}
+
+pub fn is_asked(found: LookedUp) -> bool
+    ensures { λ r. ⌜ r ≡ isAsked found ⌝ }
+{
+    match found {
+        LookedUp::NotAsked => false,
+        LookedUp::NoLabel => true,
+        LookedUp::IllChain => true,
+        LookedUp::Target(_) => true,
+    }
 }
 
 // Success with the height given: the pointer goes to the next instruction. Called only by our own steps, which know

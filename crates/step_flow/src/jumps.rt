@@ -1,11 +1,12 @@
 // CMP, the jump and the conditional jumps.
-ghost use Prim.Native.Nat.{_≤_, _<_};
+ghost use Prim.Native.Nat.{_≤_};
 ghost use Rattle.machine.specs.Step as definition;
 ghost use Rattle.flag.specs.Flags.{isSet};
 ghost use Rattle.step_core.specs.Parts.{Tested, OnCore, OnStack, foundOf};
 use machine::STACK_LIMIT;
 use step_core::Core;
 use step_core::Executed;
+use step_core::LookedUp;
 use step_core::moved;
 use step_core::trap;
 
@@ -31,28 +32,30 @@ pub fn compare(core: Core, stack: &[u64; STACK_LIMIT]) -> Executed
     }
 }
 
-pub fn jump(core: Core, found: u64) -> Executed
-    requires { ⌜ Tested core × (0 < found) ⌝ }
+pub fn jump(core: Core, found: LookedUp) -> Executed
+    requires { ⌜ Tested core ⌝ }
     ensures { λ r. ⌜ OnCore (definition.jump (foundOf found)) core r ⌝ }
 {
     match found {
-        1 => Executed::Trap(core, 26),
-        2 => Executed::Ill,
-        _ => moved(core, (found - 3) as usize),
+        LookedUp::NotAsked => Executed::Ill,
+        LookedUp::NoLabel => Executed::Trap(core, 26),
+        LookedUp::IllChain => Executed::Ill,
+        LookedUp::Target(t) => moved(core, t),
     }
 }
 
 // `op` is the first byte, 12 to 19. The label is looked up before the flag: `found` comes first.
-pub fn jump_if(core: Core, flags: u8, op: u8, found: u64) -> Executed
-    requires { ⌜ Tested core × (0 < found) × (12 ≤ op) × (op ≤ 19) ⌝ }
+pub fn jump_if(core: Core, flags: u8, op: u8, found: LookedUp) -> Executed
+    requires { ⌜ Tested core × (12 ≤ op) × (op ≤ 19) ⌝ }
     ensures { λ r. ⌜ OnCore (definition.jumpIf (isSet flags op) (foundOf found)) core r ⌝ }
 {
     match found {
-        1 => Executed::Trap(core, 26),
-        2 => Executed::Ill,
-        _ => {
+        LookedUp::NotAsked => Executed::Ill,
+        LookedUp::NoLabel => Executed::Trap(core, 26),
+        LookedUp::IllChain => Executed::Ill,
+        LookedUp::Target(t) => {
             if flag::is_set(flags, op) {
-                moved(core, (found - 3) as usize)
+                moved(core, t)
             } else {
                 moved(core, core.ip + 1)
             }

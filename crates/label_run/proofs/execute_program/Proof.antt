@@ -37,6 +37,7 @@ use denote.Signature.{plain}
 use denote.Builtin.{u8, u64, usize, bool}
 use denote.Steps.{only, owned, peeks, facts, heard, nothing}
 use denote.Struct.Laws as LL
+use denote.Enum.Laws as EL
 use denote.Triple.Statement.{Contract, Triple}
 use denote.Triple.Call.{calls-at, calls-at-last}
 use denote.Triple.Clauses.{ensured, lasts}
@@ -54,6 +55,9 @@ use Rattle.machine.proofs.Machine.Laws as Mc′
 use Rattle.step_core.specs.declared.Core.{Core}
 use Rattle.step_core.proofs.Core as Co
 use Rattle.step_core.proofs.Core.Laws as Co′
+use Rattle.step_core.specs.declared.LookedUp.{LookedUp}
+use Rattle.step_core.proofs.LookedUp as Fd
+use Rattle.step_core.proofs.LookedUp.Laws as Fd′
 use Rattle.lookup.specs.Walks.{lent, Finds}
 use Rattle.run.specs.declared.progress.Progress.{Progress}
 use Rattle.run.specs.declared.Ran.{Ran}
@@ -99,6 +103,12 @@ ov o = LL.val Pg.the-type Pg′.the-laws o
 
 abbrev rv : Ran → Val
 rv r = LL.val Rn.the-type Rn′.the-laws r
+
+abbrev fv : LookedUp → Val
+fv r = EL.val Fd.the-type Fd′.the-laws r
+
+is-found : (r : LookedUp) (v : Val) → Is Fd.the-row r (v ∷ []) → Is Fd.the-row r (fv r ∷ [])
+is-found r v is = subst (Is Fd.the-row r) (EL.tells Fd.the-type Fd′.the-laws r _ is) is
 
 is-own : (z : Progress) (v : Val) → Is Pg.the-row z (v ∷ []) → Is Pg.the-row z (ov z ∷ [])
 is-own z v is = subst (Is Pg.the-row z) (LL.tells Pg.the-type Pg′.the-laws z _ is) is
@@ -185,7 +195,7 @@ module _ {M : Type 1} (𝓤 : URA M) (H : Heap 𝓤) (A : Atoms 𝓤) (W : Given
 
   -- a turn's state, and that its numbers fit
   abbrev St : Type 0
-  St = (t : State (im .now) (ins .now) ys c limit m d₀) × Is Pg.the-row (t .o) (ov (t .o) ∷ []) × Fit w64 1024 (t .stack) × Fit w64 1024 (t .calls) × Fit w8 1024 (t .memory) × Fit w8 4096 (t .keys) × Fit w16 4096 (t .targets)
+  St = (t : State (im .now) (ins .now) ys c limit m d₀) × Is Pg.the-row (t .o) (ov (t .o) ∷ []) × Fit w64 1024 (t .stack) × Fit w64 1024 (t .calls) × Fit w8 1024 (t .memory) × Fit w8 4080 (t .keys) × Fit w16 4080 (t .targets)
 
   abbrev Low : St → St → Type 0
   Low t u = Lower (im .now) (ins .now) ys c limit m d₀ (t .0) (u .0)
@@ -248,10 +258,10 @@ module _ {M : Type 1} (𝓤 : URA M) (H : Heap 𝓤) (A : Atoms 𝓤) (W : Given
       nothing ! $ move ! (5 ∷ 0 ∷ []) $ join ! $ move ! (4 ∷ 0 ∷ []) $ join ! $
       use2 W (raw (Lookup 𝓤 H A mem run .pre (to-lookup o))) (qed W ((‵ (flft κ₀ q₀) ⊛ ‵ (flft κ₂ q₂) ⊛ ‵ ftrue) ∷ ‵ (owns (ShrSlice (named 0) κ₀ u8 ∷ ShrSlice (named 1) κ₂ T′.the-row ∷ usize ∷ u64 ∷ u64 ∷ []) (args-lookup o) (sent-lookup o)) ∷ []) ∵ join ! $ frame ! $ done !) $ frame ! $ frame ! $ done !
 
-  abbrev Found : Progress → ℕ → Type 0
+  abbrev Found : Progress → LookedUp → Type 0
   Found o r = (is : List Inst) → Finds (lent (im .now) is ys c) (o .start) (o .len) r
 
-  said-lookup : (o : Progress) (r : ℕ) → ent 𝓤 (ensured 𝓤 H A lookup.ended (lookup.clauses 𝓤 H A mem run) (κ₀, (κ₂, tt)) (args-lookup o) tt r) (fact 𝓤 (Found o r))
+  said-lookup : (o : Progress) (r : LookedUp) → ent 𝓤 (ensured 𝓤 H A lookup.ended (lookup.clauses 𝓤 H A mem run) (κ₀, (κ₂, tt)) (args-lookup o) tt r) (fact 𝓤 (Found o r))
   said-lookup o r = exE 𝓤 _ (λ ws. snd∗ 𝓤 (sem 𝓤 H A (lasts lookup.ended (κ₀, (κ₂, tt)) (args-lookup o) ws)) (fact 𝓤 (Found o r)))
 
   -- ---- the call of `begin`
@@ -306,14 +316,14 @@ module _ {M : Type 1} (𝓤 : URA M) (H : Heap 𝓤) (A : Atoms 𝓤) (W : Given
     Λ = 𝓣 .Λ
 
     abbrev E : Env 𝓤 H
-    E = (Rn′.mir, l₀) ∷ (bytes, l₁) ∷ (words, l₂) ∷ (slice, l₃) ∷ (word, l₄) ∷ (Mc′.mir, l₅) ∷ (word, l₆) ∷ (cells, l₇) ∷ (Co′.mir, l₈) ∷ ((tyArray (tyInt w64) 1024), l₉) ∷ ((tyArray (tyInt w64) 1024), l₁₀) ∷ ((tyArray (tyInt w8) 1024), l₁₁) ∷ ((tyArray (tyInt w8) 4096), l₁₂) ∷ ((tyArray (tyInt w16) 4096), l₁₃) ∷ (Pg′.mir, l₁₄) ∷ (word, l₁₅) ∷ (tyBool, l₁₆) ∷ ((tyRef erased mut (tyArray (tyInt w64) 1024)), l₁₇) ∷ ((tyRef erased mut (tyArray (tyInt w64) 1024)), l₁₈) ∷ ((tyRef erased mut (tyArray (tyInt w8) 1024)), l₁₉) ∷ ((tyRef erased mut (tyArray (tyInt w8) 4096)), l₂₀) ∷ ((tyRef erased mut (tyArray (tyInt w16) 4096)), l₂₁) ∷ (thin, l₂₂) ∷ ((sliceTy thin), l₂₃) ∷ ((tyArray (tyInt w64) 1024), l₂₄) ∷ ((tyArray (tyInt w64) 1024), l₂₅) ∷ ((tyArray (tyInt w8) 1024), l₂₆) ∷ []
+    E = (Rn′.mir, l₀) ∷ (bytes, l₁) ∷ (words, l₂) ∷ (slice, l₃) ∷ (word, l₄) ∷ (Mc′.mir, l₅) ∷ (word, l₆) ∷ (cells, l₇) ∷ (Co′.mir, l₈) ∷ ((tyArray (tyInt w64) 1024), l₉) ∷ ((tyArray (tyInt w64) 1024), l₁₀) ∷ ((tyArray (tyInt w8) 1024), l₁₁) ∷ ((tyArray (tyInt w8) 4080), l₁₂) ∷ ((tyArray (tyInt w16) 4080), l₁₃) ∷ (Pg′.mir, l₁₄) ∷ (Fd′.mir, l₁₅) ∷ (tyBool, l₁₆) ∷ ((tyRef erased mut (tyArray (tyInt w64) 1024)), l₁₇) ∷ ((tyRef erased mut (tyArray (tyInt w64) 1024)), l₁₈) ∷ ((tyRef erased mut (tyArray (tyInt w8) 1024)), l₁₉) ∷ ((tyRef erased mut (tyArray (tyInt w8) 4080)), l₂₀) ∷ ((tyRef erased mut (tyArray (tyInt w16) 4080)), l₂₁) ∷ (thin, l₂₂) ∷ ((sliceTy thin), l₂₃) ∷ ((tyArray (tyInt w64) 1024), l₂₄) ∷ ((tyArray (tyInt w64) 1024), l₂₅) ∷ ((tyArray (tyInt w8) 1024), l₂₆) ∷ []
 
     -- where a turn begins: the buffer and its token, the image, the instructions and the labels with theirs, and the locals from the last one on
     abbrev At : List ℕ → Progress → List ℕ → List ℕ → List ℕ → List ℕ → List ℕ → List (Item 𝓤)
     At d o stack calls memory keys targets = ‵ (Dumps d (sv d)) ∷ ‵ (flft κ₃ q₃) ∷ ‵ Image ∷ ‵ (flft κ₀ q₀) ∷ ‵ Insts ∷ ‵ (flft κ₁ q₁) ∷ ‵ Labels ∷ ‵ (flft κ₂ q₂)
         ∷ ‵ (froom (tyArray (tyInt w8) 1024) l₂₆ 0) ∷ ‵ (fdies (tyArray (tyInt w8) 1024) l₂₆) ∷ ‵ (froom (tyArray (tyInt w64) 1024) l₂₅ 0) ∷ ‵ (fdies (tyArray (tyInt w64) 1024) l₂₅) ∷ ‵ (froom (tyArray (tyInt w64) 1024) l₂₄ 0) ∷ ‵ (fdies (tyArray (tyInt w64) 1024) l₂₄) ∷ ‵ (froom (sliceTy thin) l₂₃ 0) ∷ ‵ (fdies (sliceTy thin) l₂₃) ∷ ‵ (froom thin l₂₂ 0) ∷ ‵ (fdies thin l₂₂)
-        ∷ ‵ (froom (tyRef erased mut (tyArray (tyInt w16) 4096)) l₂₁ 0) ∷ ‵ (fdies (tyRef erased mut (tyArray (tyInt w16) 4096)) l₂₁) ∷ ‵ (froom (tyRef erased mut (tyArray (tyInt w8) 4096)) l₂₀ 0) ∷ ‵ (fdies (tyRef erased mut (tyArray (tyInt w8) 4096)) l₂₀) ∷ ‵ (froom (tyRef erased mut (tyArray (tyInt w8) 1024)) l₁₉ 0) ∷ ‵ (fdies (tyRef erased mut (tyArray (tyInt w8) 1024)) l₁₉) ∷ ‵ (froom (tyRef erased mut (tyArray (tyInt w64) 1024)) l₁₈ 0) ∷ ‵ (fdies (tyRef erased mut (tyArray (tyInt w64) 1024)) l₁₈) ∷ ‵ (froom (tyRef erased mut (tyArray (tyInt w64) 1024)) l₁₇ 0) ∷ ‵ (fdies (tyRef erased mut (tyArray (tyInt w64) 1024)) l₁₇)
-        ∷ ‵ (froom tyBool l₁₆ 0) ∷ ‵ (fdies tyBool l₁₆) ∷ ‵ (froom word l₁₅ 0) ∷ ‵ (fdies word l₁₅) ∷ ‵ (fat fullShare Pg′.mir l₁₄ 0 (ov o)) ∷ ‵ (fdies Pg′.mir l₁₄) ∷ ‵ (fat fullShare (tyArray (tyInt w16) 4096) l₁₃ 0 (numbers w16 4096 targets)) ∷ ‵ (fdies (tyArray (tyInt w16) 4096) l₁₃) ∷ ‵ (fat fullShare (tyArray (tyInt w8) 4096) l₁₂ 0 (numbers w8 4096 keys)) ∷ ‵ (fdies (tyArray (tyInt w8) 4096) l₁₂)
+        ∷ ‵ (froom (tyRef erased mut (tyArray (tyInt w16) 4080)) l₂₁ 0) ∷ ‵ (fdies (tyRef erased mut (tyArray (tyInt w16) 4080)) l₂₁) ∷ ‵ (froom (tyRef erased mut (tyArray (tyInt w8) 4080)) l₂₀ 0) ∷ ‵ (fdies (tyRef erased mut (tyArray (tyInt w8) 4080)) l₂₀) ∷ ‵ (froom (tyRef erased mut (tyArray (tyInt w8) 1024)) l₁₉ 0) ∷ ‵ (fdies (tyRef erased mut (tyArray (tyInt w8) 1024)) l₁₉) ∷ ‵ (froom (tyRef erased mut (tyArray (tyInt w64) 1024)) l₁₈ 0) ∷ ‵ (fdies (tyRef erased mut (tyArray (tyInt w64) 1024)) l₁₈) ∷ ‵ (froom (tyRef erased mut (tyArray (tyInt w64) 1024)) l₁₇ 0) ∷ ‵ (fdies (tyRef erased mut (tyArray (tyInt w64) 1024)) l₁₇)
+        ∷ ‵ (froom tyBool l₁₆ 0) ∷ ‵ (fdies tyBool l₁₆) ∷ ‵ (froom Fd′.mir l₁₅ 0) ∷ ‵ (fdies Fd′.mir l₁₅) ∷ ‵ (fat fullShare Pg′.mir l₁₄ 0 (ov o)) ∷ ‵ (fdies Pg′.mir l₁₄) ∷ ‵ (fat fullShare (tyArray (tyInt w16) 4080) l₁₃ 0 (numbers w16 4080 targets)) ∷ ‵ (fdies (tyArray (tyInt w16) 4080) l₁₃) ∷ ‵ (fat fullShare (tyArray (tyInt w8) 4080) l₁₂ 0 (numbers w8 4080 keys)) ∷ ‵ (fdies (tyArray (tyInt w8) 4080) l₁₂)
         ∷ ‵ (fat fullShare (tyArray (tyInt w8) 1024) l₁₁ 0 (numbers w8 1024 memory)) ∷ ‵ (fdies (tyArray (tyInt w8) 1024) l₁₁) ∷ ‵ (fat fullShare (tyArray (tyInt w64) 1024) l₁₀ 0 (numbers w64 1024 calls)) ∷ ‵ (fdies (tyArray (tyInt w64) 1024) l₁₀) ∷ ‵ (fat fullShare (tyArray (tyInt w64) 1024) l₉ 0 (numbers w64 1024 stack)) ∷ ‵ (fdies (tyArray (tyInt w64) 1024) l₉) ∷ ‵ (fat fullShare Co′.mir l₈ 0 (cv (core m))) ∷ ‵ (fdies Co′.mir l₈) ∷ ‵ (fat fullShare cells l₇ 0 (sv d)) ∷ ‵ (fdies cells l₇)
         ∷ ‵ (fat fullShare word l₆ 0 (vint w64 limit)) ∷ ‵ (fdies word l₆) ∷ ‵ (fat fullShare Mc′.mir l₅ 0 mv) ∷ ‵ (fdies Mc′.mir l₅) ∷ ‵ (fat fullShare word l₄ 0 (vint w64 c)) ∷ ‵ (fdies word l₄) ∷ ‵ (fat fullShare slice l₃ 0 lv) ∷ ‵ (fdies slice l₃) ∷ ‵ (fat fullShare words l₂ 0 iv) ∷ ‵ (fdies words l₂)
         ∷ ‵ (fat fullShare bytes l₁ 0 gv) ∷ ‵ (fdies bytes l₁) ∷ ‵ (froom Rn′.mir l₀ 0) ∷ ‵ (fdies Rn′.mir l₀) ∷ []
@@ -335,21 +345,21 @@ module _ {M : Type 1} (𝓤 : URA M) (H : Heap 𝓤) (A : Atoms 𝓤) (W : Given
     Lent₂ ν δ xs = Lent w8 1024 (named 4) (ν ∷ []) l₁₁ δ xs
 
     abbrev Lent₃ : ℕ → GName → List ℕ → Fml
-    Lent₃ ν δ xs = Lent w8 4096 (named 5) (ν ∷ []) l₁₂ δ xs
+    Lent₃ ν δ xs = Lent w8 4080 (named 5) (ν ∷ []) l₁₂ δ xs
 
     abbrev Lent₄ : ℕ → GName → List ℕ → Fml
-    Lent₄ ν δ xs = Lent w16 4096 (named 6) (ν ∷ []) l₁₃ δ xs
+    Lent₄ ν δ xs = Lent w16 4080 (named 6) (ν ∷ []) l₁₃ δ xs
 
-    abbrev args-steps : GName → GName → GName → GName → GName → GName → List ℕ → Progress → ℕ → List ℕ → List ℕ → List ℕ → List ℕ → List ℕ → RefT (List ℕ) × (RefT (List ℕ) × (ℕ × (Progress × (ℕ × (RefT (List ℕ) × (RefT (List ℕ) × (RefT (List ℕ) × (RefT (List ℕ) × (RefT (List ℕ) × (RefT (List ℕ) × Unit {0}))))))))))
+    abbrev args-steps : GName → GName → GName → GName → GName → GName → List ℕ → Progress → LookedUp → List ℕ → List ℕ → List ℕ → List ℕ → List ℕ → RefT (List ℕ) × (RefT (List ℕ) × (ℕ × (Progress × (LookedUp × (RefT (List ℕ) × (RefT (List ℕ) × (RefT (List ℕ) × (RefT (List ℕ) × (RefT (List ℕ) × (RefT (List ℕ) × Unit {0}))))))))))
     args-steps δ₀ δ₁ δ₂ δ₃ δ₄ δ₅ d o r stack calls memory keys targets = (im, (ins, (c, (o, (r, (record { ptr = (l₉, 0); name = δ₀; now = stack }, (record { ptr = (l₁₀, 0); name = δ₁; now = calls }, (record { ptr = (l₁₁, 0); name = δ₂; now = memory }, (record { ptr = (l₁₂, 0); name = δ₃; now = keys }, (record { ptr = (l₁₃, 0); name = δ₄; now = targets }, (x δ₅ d, tt)))))))))))
 
-    abbrev sent-steps : List ℕ → Progress → ℕ → List Val × (List Val × (List Val × (List Val × (List Val × (List Val × (List Val × (List Val × (List Val × (List Val × (List Val × Unit {0}))))))))))
-    sent-steps d o r = (gv ∷ [], (iv ∷ [], (vint w64 c ∷ [], (ov o ∷ [], (vint w64 r ∷ [], (vptr l₉ 0 ∷ [], (vptr l₁₀ 0 ∷ [], (vptr l₁₁ 0 ∷ [], (vptr l₁₂ 0 ∷ [], (vptr l₁₃ 0 ∷ [], (sv d ∷ [], tt)))))))))))
+    abbrev sent-steps : List ℕ → Progress → LookedUp → List Val × (List Val × (List Val × (List Val × (List Val × (List Val × (List Val × (List Val × (List Val × (List Val × (List Val × Unit {0}))))))))))
+    sent-steps d o r = (gv ∷ [], (iv ∷ [], (vint w64 c ∷ [], (ov o ∷ [], (fv r ∷ [], (vptr l₉ 0 ∷ [], (vptr l₁₀ 0 ∷ [], (vptr l₁₁ 0 ∷ [], (vptr l₁₂ 0 ∷ [], (vptr l₁₃ 0 ∷ [], (sv d ∷ [], tt)))))))))))
 
     abbrev Lfts-steps : ℕ → ℕ → ℕ → ℕ → ℕ → ℕ → Lft × (Lft × (Lft × (Lft × (Lft × (Lft × (Lft × (Lft × Unit {0})))))))
     Lfts-steps ν₀ ν₁ ν₂ ν₃ ν₄ ν₅ = (κ₀, (κ₁, (ν₀ ∷ [], (ν₁ ∷ [], (ν₂ ∷ [], (ν₃ ∷ [], (ν₄ ∷ [], (ν₅ ∷ [], tt))))))))
 
-    abbrev to-steps : ℕ → ℕ → ℕ → ℕ → ℕ → ℕ → GName → GName → GName → GName → GName → GName → List ℕ → Progress → ℕ → List ℕ → List ℕ → List ℕ → List ℕ → List ℕ → Steps 𝓤 H A mem run .Ghost
+    abbrev to-steps : ℕ → ℕ → ℕ → ℕ → ℕ → ℕ → GName → GName → GName → GName → GName → GName → List ℕ → Progress → LookedUp → List ℕ → List ℕ → List ℕ → List ℕ → List ℕ → Steps 𝓤 H A mem run .Ghost
     to-steps ν₀ ν₁ ν₂ ν₃ ν₄ ν₅ δ₀ δ₁ δ₂ δ₃ δ₄ δ₅ d o r stack calls memory keys targets = ((Lfts-steps ν₀ ν₁ ν₂ ν₃ ν₄ ν₅, (q₀, (q₁, (fullShare, (fullShare, (fullShare, (fullShare, (fullShare, (fullShare, tt)))))))), tt, args-steps δ₀ δ₁ δ₂ δ₃ δ₄ δ₅ d o r stack calls memory keys targets, sent-steps d o r), tt)
 
     abbrev From-steps : ℕ → ℕ → ℕ → ℕ → ℕ → ℕ → GName → GName → GName → GName → GName → GName → List ℕ → List ℕ → List ℕ → List ℕ → List ℕ → List ℕ → List (Item 𝓤)
@@ -358,16 +368,16 @@ module _ {M : Type 1} (𝓤 : URA M) (H : Heap 𝓤) (A : Atoms 𝓤) (W : Given
     abbrev Tokens : ℕ → ℕ → ℕ → ℕ → ℕ → ℕ → Item 𝓤
     Tokens ν₀ ν₁ ν₂ ν₃ ν₄ ν₅ = ‵ (flft κ₀ q₀) ⊛ ‵ (flft κ₁ q₁) ⊛ ‵ (flft (ν₀ ∷ []) fullShare) ⊛ ‵ (flft (ν₁ ∷ []) fullShare) ⊛ ‵ (flft (ν₂ ∷ []) fullShare) ⊛ ‵ (flft (ν₃ ∷ []) fullShare) ⊛ ‵ (flft (ν₄ ∷ []) fullShare) ⊛ ‵ (flft (ν₅ ∷ []) fullShare) ⊛ ‵ ftrue
 
-    abbrev To-steps : ℕ → ℕ → ℕ → ℕ → ℕ → ℕ → GName → GName → GName → GName → GName → GName → List ℕ → Progress → ℕ → List ℕ → List ℕ → List ℕ → List ℕ → List ℕ → List (Item 𝓤)
+    abbrev To-steps : ℕ → ℕ → ℕ → ℕ → ℕ → ℕ → GName → GName → GName → GName → GName → GName → List ℕ → Progress → LookedUp → List ℕ → List ℕ → List ℕ → List ℕ → List ℕ → List (Item 𝓤)
     To-steps ν₀ ν₁ ν₂ ν₃ ν₄ ν₅ δ₀ δ₁ δ₂ δ₃ δ₄ δ₅ d o r stack calls memory keys targets = raw (Steps 𝓤 H A mem run .pre (to-steps ν₀ ν₁ ν₂ ν₃ ν₄ ν₅ δ₀ δ₁ δ₂ δ₃ δ₄ δ₅ d o r stack calls memory keys targets)) ∷ ‵ Image ∷ ‵ Insts ∷ []
 
-    goes-steps : (ν₀ ν₁ ν₂ ν₃ ν₄ ν₅ : ℕ) (δ₀ δ₁ δ₂ δ₃ δ₄ δ₅ : GName) (d : List ℕ) (o : Progress) (r : ℕ) (stack calls memory keys targets : List ℕ) → Is Pg.the-row o (ov o ∷ []) → r < 2 ^ 64 → Ready (ins .now) c o d keys targets
+    goes-steps : (ν₀ ν₁ ν₂ ν₃ ν₄ ν₅ : ℕ) (δ₀ δ₁ δ₂ δ₃ δ₄ δ₅ : GName) (d : List ℕ) (o : Progress) (r : LookedUp) (stack calls memory keys targets : List ℕ) → Is Pg.the-row o (ov o ∷ []) → Is Fd.the-row r (fv r ∷ []) → Ready (ins .now) c o d keys targets
         → ent 𝓤 (⋆ 𝓤 H A (From-steps ν₀ ν₁ ν₂ ν₃ ν₄ ν₅ δ₀ δ₁ δ₂ δ₃ δ₄ δ₅ d stack calls memory keys targets)) (⋆ 𝓤 H A (To-steps ν₀ ν₁ ν₂ ν₃ ν₄ ν₅ δ₀ δ₁ δ₂ δ₃ δ₄ δ₅ d o r stack calls memory keys targets))
     goes-steps ν₀ ν₁ ν₂ ν₃ ν₄ ν₅ δ₀ δ₁ δ₂ δ₃ δ₄ δ₅ d o r stack calls memory keys targets is fr at-hand =
         qed W (From-steps ν₀ ν₁ ν₂ ν₃ ν₄ ν₅ δ₀ δ₁ δ₂ δ₃ δ₄ δ₅ d stack calls memory keys targets) ∵ move ! (3 ∷ []) $ use1 W (‵ Insts ⊛ ‵ Insts) (shr-slice-copy 𝓤 H A W (named 1) κ₁ u8 .twice ins (iv ∷ [])) $ split ! $ move ! (3 ∷ []) $ use1 W (‵ Image ⊛ ‵ Image) (shr-slice-copy 𝓤 H A W (named 0) κ₀ u8 .twice im (gv ∷ [])) $ split ! $
-        nothing ! $ move ! (18 ∷ 0 ∷ []) $ fjoin ! $ move ! (16 ∷ 0 ∷ []) $ fjoin ! $ move ! (14 ∷ 0 ∷ []) $ fjoin ! $ move ! (12 ∷ 0 ∷ []) $ fjoin ! $ move ! (10 ∷ 0 ∷ []) $ fjoin ! $ move ! (8 ∷ 0 ∷ []) $ fjoin ! $ owned ! u64 (Is u64) (uint-makes 𝓤 H A W w64) r _ (refl, fr) $ fjoin ! $ owned ! Pg.the-row (Is Pg.the-row) (LL.makes Pg.the-type Pg′.the-plain 𝓤 H A) o _ is $ fjoin ! $ owned ! usize (Is usize) (uint-makes 𝓤 H A W w64) c _ (refl, fc) $ fjoin ! $ move ! (3 ∷ 0 ∷ []) $ fjoin ! $ move ! (1 ∷ 0 ∷ []) $ fjoin ! $
+        nothing ! $ move ! (18 ∷ 0 ∷ []) $ fjoin ! $ move ! (16 ∷ 0 ∷ []) $ fjoin ! $ move ! (14 ∷ 0 ∷ []) $ fjoin ! $ move ! (12 ∷ 0 ∷ []) $ fjoin ! $ move ! (10 ∷ 0 ∷ []) $ fjoin ! $ move ! (8 ∷ 0 ∷ []) $ fjoin ! $ owned ! Fd.the-row (Is Fd.the-row) (EL.makes Fd.the-type Fd′.the-plain 𝓤 H A) r _ fr $ fjoin ! $ owned ! Pg.the-row (Is Pg.the-row) (LL.makes Pg.the-type Pg′.the-plain 𝓤 H A) o _ is $ fjoin ! $ owned ! usize (Is usize) (uint-makes 𝓤 H A W w64) c _ (refl, fc) $ fjoin ! $ move ! (3 ∷ 0 ∷ []) $ fjoin ! $ move ! (1 ∷ 0 ∷ []) $ fjoin ! $
         nothing ! $ move ! (11 ∷ 0 ∷ []) $ join ! $ move ! (10 ∷ 0 ∷ []) $ join ! $ move ! (9 ∷ 0 ∷ []) $ join ! $ move ! (8 ∷ 0 ∷ []) $ join ! $ move ! (7 ∷ 0 ∷ []) $ join ! $ move ! (6 ∷ 0 ∷ []) $ join ! $ move ! (5 ∷ 0 ∷ []) $ join ! $ move ! (4 ∷ 0 ∷ []) $ join ! $
-        use2 W (raw (Steps 𝓤 H A mem run .pre (to-steps ν₀ ν₁ ν₂ ν₃ ν₄ ν₅ δ₀ δ₁ δ₂ δ₃ δ₄ δ₅ d o r stack calls memory keys targets))) (qed W (Tokens ν₀ ν₁ ν₂ ν₃ ν₄ ν₅ ∷ ‵ (owns (ShrSlice (named 0) κ₀ u8 ∷ ShrSlice (named 1) κ₁ u8 ∷ usize ∷ Pg.the-row ∷ u64 ∷ MutRef (named 2) (ν₀ ∷ []) (Numbers w64 1024) ∷ MutRef (named 3) (ν₁ ∷ []) (Numbers w64 1024) ∷ MutRef (named 4) (ν₂ ∷ []) (Numbers w8 1024) ∷ MutRef (named 5) (ν₃ ∷ []) (Numbers w8 4096) ∷ MutRef (named 6) (ν₄ ∷ []) (Numbers w16 4096) ∷ MutSlice (named 7) (ν₅ ∷ []) u8 ∷ []) (args-steps δ₀ δ₁ δ₂ δ₃ δ₄ δ₅ d o r stack calls memory keys targets) (sent-steps d o r)) ∷ []) ∵ says ! at-hand $ frame ! $ done !) $ frame ! $ frame ! $ done !
+        use2 W (raw (Steps 𝓤 H A mem run .pre (to-steps ν₀ ν₁ ν₂ ν₃ ν₄ ν₅ δ₀ δ₁ δ₂ δ₃ δ₄ δ₅ d o r stack calls memory keys targets))) (qed W (Tokens ν₀ ν₁ ν₂ ν₃ ν₄ ν₅ ∷ ‵ (owns (ShrSlice (named 0) κ₀ u8 ∷ ShrSlice (named 1) κ₁ u8 ∷ usize ∷ Pg.the-row ∷ Fd.the-row ∷ MutRef (named 2) (ν₀ ∷ []) (Numbers w64 1024) ∷ MutRef (named 3) (ν₁ ∷ []) (Numbers w64 1024) ∷ MutRef (named 4) (ν₂ ∷ []) (Numbers w8 1024) ∷ MutRef (named 5) (ν₃ ∷ []) (Numbers w8 4080) ∷ MutRef (named 6) (ν₄ ∷ []) (Numbers w16 4080) ∷ MutSlice (named 7) (ν₅ ∷ []) u8 ∷ []) (args-steps δ₀ δ₁ δ₂ δ₃ δ₄ δ₅ d o r stack calls memory keys targets) (sent-steps d o r)) ∷ []) ∵ says ! at-hand $ frame ! $ done !) $ frame ! $ frame ! $ done !
 
     abbrev Lasts : Type 0
     Lasts = Unit {0} × (Unit {0} × (Unit {0} × (Unit {0} × (Unit {0} × (List ℕ × (List ℕ × (List ℕ × (List ℕ × (List ℕ × (List ℕ × Unit {0}))))))))))
@@ -412,9 +422,9 @@ module _ {M : Type 1} (𝓤 : URA M) (H : Heap 𝓤) (A : Atoms 𝓤) (W : Given
         -- let found = lookup(image, labels, count, o.start, o.len)
         move ! (3 ∷ 2 ∷ 7 ∷ 6 ∷ []) $ cut From-lookup (To-lookup o) _ (goes-lookup o fc (t .1)) $
         calls-at ! (fmOf 𝓤 H (W .laws) 𝓣) (Lookup 𝓤 H A mem run) (knows .looks) (to-lookup o) (and-then ! (load ! (from ! (stop !)) (look ! 57 refl)) (and-then ! (load ! (from ! (stop !)) (look ! 53 refl)) (and-then ! (load ! (from ! (stop !)) (look ! 51 refl)) (and-then ! (load ! (from ! (fld ! refl (stop !))) (look-in ! 31 (sub ! 5 refl (whole !)))) (and-then ! (load ! (from ! (fld ! refl (stop !))) (look-in ! 31 (sub ! 6 refl (whole !)))) (no-more !)))))) (λ v.
-        use1 W (later (some (λ (r : ℕ). ((‵ (flft κ₀ q₀) ⊛ ‵ (flft κ₂ q₂) ⊛ ‵ ftrue) ⊛ ‵ (u64 .own r (v ∷ []))) ⊛ raw (ensured 𝓤 H A lookup.ended (lookup.clauses 𝓤 H A mem run) (κ₀, (κ₂, tt)) (args-lookup o) tt r)))) (id⊢ 𝓤 _) $ await ! tt $ pick ! (λ r.
-        split ! $ move ! (1 ∷ []) $ use1 W (raw (fact 𝓤 (Found o r))) (said-lookup o r) $ heard ! (Found o r) (λ finds. split ! $ move ! (1 ∷ []) $ peeks ! u64 (Is u64) (shows 𝓤 H A u64) r (v ∷ []) (λ isr.
-        land ! (from ! (stop !)) (init ! 30 refl (uint-lawful 𝓤 H A W w64 .typed r _ isr .0)) $ rewrite ! 30 (λ (u : Val). ‵ (fat fullShare word l₁₅ 0 u)) (ap only (uint-tells w64 r _ isr)) refl $
+        use1 W (later (some (λ (r : LookedUp). ((‵ (flft κ₀ q₀) ⊛ ‵ (flft κ₂ q₂) ⊛ ‵ ftrue) ⊛ ‵ (Fd.the-row .own r (v ∷ []))) ⊛ raw (ensured 𝓤 H A lookup.ended (lookup.clauses 𝓤 H A mem run) (κ₀, (κ₂, tt)) (args-lookup o) tt r)))) (id⊢ 𝓤 _) $ await ! tt $ pick ! (λ r.
+        split ! $ move ! (1 ∷ []) $ use1 W (raw (fact 𝓤 (Found o r))) (said-lookup o r) $ heard ! (Found o r) (λ finds. split ! $ move ! (1 ∷ []) $ peeks ! Fd.the-row (Is Fd.the-row) (shows 𝓤 H A Fd.the-row) r (v ∷ []) (λ isr.
+        land ! (from ! (stop !)) (init ! 30 refl (EL.lawful Fd.the-type Fd′.the-laws 𝓤 H A W tt .typed r _ isr .0)) $ rewrite ! 30 (λ (u : Val). ‵ (fat fullShare Fd′.mir l₁₅ 0 u)) (ap only (EL.tells Fd.the-type Fd′.the-laws r _ isr)) refl $
         drop ! $ split ! $ move ! (1 ∷ []) $ split ! $ move ! (1 ∷ []) $ drop ! $
         -- o = steps(image, insts, count, o, found, &mut stack, &mut calls, &mut memory, &mut keys, &mut targets, dumps)
         assigns ! (addr ! (from ! (stop !))) (from ! (stop !)) (init ! 26 refl (tt, tt)) $
@@ -428,10 +438,10 @@ module _ {M : Type 1} (𝓤 : URA M) (H : Heap 𝓤) (A : Atoms 𝓤) (W : Given
         move ! (48 ∷ []) $ use1 W (later (some (λ (δ₀ : GName). ‵ (Lent₀ ν₀ δ₀ stack) ⊛ ‵ (Lender w64 1024 (ν₀ ∷ []) l₉ δ₀)))) (lends-array w64 1024 𝓤 H A W (named 2) (ν₀ ∷ []) l₉ stack (t .2)) $ await ! tt $ pick ! (λ δ₀. split ! $
         move ! (48 ∷ []) $ use1 W (later (some (λ (δ₁ : GName). ‵ (Lent₁ ν₁ δ₁ calls) ⊛ ‵ (Lender w64 1024 (ν₁ ∷ []) l₁₀ δ₁)))) (lends-array w64 1024 𝓤 H A W (named 3) (ν₁ ∷ []) l₁₀ calls (t .3)) $ await ! tt $ pick ! (λ δ₁. split ! $
         move ! (48 ∷ []) $ use1 W (later (some (λ (δ₂ : GName). ‵ (Lent₂ ν₂ δ₂ memory) ⊛ ‵ (Lender w8 1024 (ν₂ ∷ []) l₁₁ δ₂)))) (lends-array w8 1024 𝓤 H A W (named 4) (ν₂ ∷ []) l₁₁ memory (t .4)) $ await ! tt $ pick ! (λ δ₂. split ! $
-        move ! (48 ∷ []) $ use1 W (later (some (λ (δ₃ : GName). ‵ (Lent₃ ν₃ δ₃ keys) ⊛ ‵ (Lender w8 4096 (ν₃ ∷ []) l₁₂ δ₃)))) (lends-array w8 4096 𝓤 H A W (named 5) (ν₃ ∷ []) l₁₂ keys (t .5)) $ await ! tt $ pick ! (λ δ₃. split ! $
-        move ! (48 ∷ []) $ use1 W (later (some (λ (δ₄ : GName). ‵ (Lent₄ ν₄ δ₄ targets) ⊛ ‵ (Lender w16 4096 (ν₄ ∷ []) l₁₃ δ₄)))) (lends-array w16 4096 𝓤 H A W (named 6) (ν₄ ∷ []) l₁₃ targets (t .6)) $ await ! tt $ pick ! (λ δ₄. split ! $
+        move ! (48 ∷ []) $ use1 W (later (some (λ (δ₃ : GName). ‵ (Lent₃ ν₃ δ₃ keys) ⊛ ‵ (Lender w8 4080 (ν₃ ∷ []) l₁₂ δ₃)))) (lends-array w8 4080 𝓤 H A W (named 5) (ν₃ ∷ []) l₁₂ keys (t .5)) $ await ! tt $ pick ! (λ δ₃. split ! $
+        move ! (48 ∷ []) $ use1 W (later (some (λ (δ₄ : GName). ‵ (Lent₄ ν₄ δ₄ targets) ⊛ ‵ (Lender w16 4080 (ν₄ ∷ []) l₁₃ δ₄)))) (lends-array w16 4080 𝓤 H A W (named 6) (ν₄ ∷ []) l₁₃ targets (t .6)) $ await ! tt $ pick ! (λ δ₄. split ! $
         move ! (20 ∷ 21 ∷ []) $ use2 W (later (some (λ (δ₅ : GName). ‵ (Lent-dumps ν₅ δ₅ d) ⊛ ‵ (LentAgain u8 κ₃ (ν₅ ∷ []) q₃ γ b e δ₅ d)))) (lends-again u8 κ₃ (ν₅ ∷ []) q₃ γ b e 𝓤 H A W (named 3) (named 7) d) $ await ! tt $ pick ! (λ δ₅. split ! $
-        move ! (19 ∷ 20 ∷ 23 ∷ 22 ∷ 12 ∷ 10 ∷ 13 ∷ 8 ∷ 14 ∷ 6 ∷ 15 ∷ 4 ∷ 16 ∷ 2 ∷ 17 ∷ 0 ∷ []) $ cut (From-steps ν₀ ν₁ ν₂ ν₃ ν₄ ν₅ δ₀ δ₁ δ₂ δ₃ δ₄ δ₅ d stack calls memory keys targets) (To-steps ν₀ ν₁ ν₂ ν₃ ν₄ ν₅ δ₀ δ₁ δ₂ δ₃ δ₄ δ₅ d o r stack calls memory keys targets) _ (goes-steps ν₀ ν₁ ν₂ ν₃ ν₄ ν₅ δ₀ δ₁ δ₂ δ₃ δ₄ δ₅ d o r stack calls memory keys targets (t .1) (isr .1) (is-ready (im .now) (ins .now) ys c limit m d₀ (t .0) on)) $
+        move ! (19 ∷ 20 ∷ 23 ∷ 22 ∷ 12 ∷ 10 ∷ 13 ∷ 8 ∷ 14 ∷ 6 ∷ 15 ∷ 4 ∷ 16 ∷ 2 ∷ 17 ∷ 0 ∷ []) $ cut (From-steps ν₀ ν₁ ν₂ ν₃ ν₄ ν₅ δ₀ δ₁ δ₂ δ₃ δ₄ δ₅ d stack calls memory keys targets) (To-steps ν₀ ν₁ ν₂ ν₃ ν₄ ν₅ δ₀ δ₁ δ₂ δ₃ δ₄ δ₅ d o r stack calls memory keys targets) _ (goes-steps ν₀ ν₁ ν₂ ν₃ ν₄ ν₅ δ₀ δ₁ δ₂ δ₃ δ₄ δ₅ d o r stack calls memory keys targets (t .1) (is-found r v isr) (is-ready (im .now) (ins .now) ys c limit m d₀ (t .0) on)) $
         calls-at-last ! (fmOf 𝓤 H (W .laws) 𝓣) (Steps 𝓤 H A mem run) (knows .steps-on) (to-steps ν₀ ν₁ ν₂ ν₃ ν₄ ν₅ δ₀ δ₁ δ₂ δ₃ δ₄ δ₅ d o r stack calls memory keys targets) (and-then ! (load ! (from ! (stop !)) (look ! 56 refl)) (and-then ! (load ! (from ! (stop !)) (look ! 54 refl)) (and-then ! (load ! (from ! (stop !)) (look ! 50 refl)) (and-then ! (load ! (from ! (stop !)) (look ! 35 refl)) (and-then ! (load ! (from ! (stop !)) (look ! 33 refl)) (and-then ! (load ! (from ! (stop !)) (look ! 29 refl)) (and-then ! (load ! (from ! (stop !)) (look ! 27 refl)) (and-then ! (load ! (from ! (stop !)) (look ! 25 refl)) (and-then ! (load ! (from ! (stop !)) (look ! 23 refl)) (and-then ! (load ! (from ! (stop !)) (look ! 21 refl)) (and-then ! (load ! (from ! (stop !)) (look ! 17 refl)) (no-more !)))))))))))) (λ v′.
         use1 W (later (some (λ (z : Progress). (Tokens ν₀ ν₁ ν₂ ν₃ ν₄ ν₅ ⊛ ‵ (Pg.the-row .own z (v′ ∷ []))) ⊛ raw (ensured 𝓤 H A steps.ended (steps.clauses 𝓤 H A mem run) (Lfts-steps ν₀ ν₁ ν₂ ν₃ ν₄ ν₅) (args-steps δ₀ δ₁ δ₂ δ₃ δ₄ δ₅ d o r stack calls memory keys targets) tt z)))) (id⊢ 𝓤 _) $ await ! tt $ pick ! (λ z.
         split ! $ move ! (1 ∷ []) $ use1 W (some (λ (ws : Lasts). ‵ (lasts steps.ended (Lfts-steps ν₀ ν₁ ν₂ ν₃ ν₄ ν₅) (args-steps δ₀ δ₁ δ₂ δ₃ δ₄ δ₅ d o r stack calls memory keys targets) ws) ⊛ raw (fact 𝓤 (Advances (im .now) (ins .now) c o r d keys targets stack calls memory z (ws .1 .1 .1 .1 .1 .1 .1 .1 .1 .1 .0) (ws .1 .1 .1 .1 .1 .1 .1 .1 .0) (ws .1 .1 .1 .1 .1 .1 .1 .1 .1 .0) (ws .1 .1 .1 .1 .1 .0) (ws .1 .1 .1 .1 .1 .1 .0) (ws .1 .1 .1 .1 .1 .1 .1 .0))))) (id⊢ 𝓤 _) $ pick ! (λ ws.
@@ -444,8 +454,8 @@ module _ {M : Type 1} (𝓤 : URA M) (H : Heap 𝓤) (A : Atoms 𝓤) (W : Given
         move ! (5 ∷ []) $ lft-end ! tt $ move ! (0 ∷ 22 ∷ 14 ∷ []) $ use3 W (later (‵ (Cell w64 1024 l₉ (ws .1 .1 .1 .1 .1 .0)) ⊛ ‵ (Owned w64 1024 (ws .1 .1 .1 .1 .1 .0)))) (array-back w64 1024 𝓤 H A W (ν₀ ∷ []) l₉ δ₀ (ws .1 .1 .1 .1 .1 .0)) $ await ! tt $ split ! $ move ! (1 ∷ []) $ facts ! (Numbers w64 1024) (Is (Numbers w64 1024)) (shows 𝓤 H A (Numbers w64 1024)) (ws .1 .1 .1 .1 .1 .0) _ (λ is₀.
         move ! (5 ∷ []) $ lft-end ! tt $ move ! (0 ∷ 20 ∷ 13 ∷ []) $ use3 W (later (‵ (Cell w64 1024 l₁₀ (ws .1 .1 .1 .1 .1 .1 .0)) ⊛ ‵ (Owned w64 1024 (ws .1 .1 .1 .1 .1 .1 .0)))) (array-back w64 1024 𝓤 H A W (ν₁ ∷ []) l₁₀ δ₁ (ws .1 .1 .1 .1 .1 .1 .0)) $ await ! tt $ split ! $ move ! (1 ∷ []) $ facts ! (Numbers w64 1024) (Is (Numbers w64 1024)) (shows 𝓤 H A (Numbers w64 1024)) (ws .1 .1 .1 .1 .1 .1 .0) _ (λ is₁.
         move ! (5 ∷ []) $ lft-end ! tt $ move ! (0 ∷ 18 ∷ 12 ∷ []) $ use3 W (later (‵ (Cell w8 1024 l₁₁ (ws .1 .1 .1 .1 .1 .1 .1 .0)) ⊛ ‵ (Owned w8 1024 (ws .1 .1 .1 .1 .1 .1 .1 .0)))) (array-back w8 1024 𝓤 H A W (ν₂ ∷ []) l₁₁ δ₂ (ws .1 .1 .1 .1 .1 .1 .1 .0)) $ await ! tt $ split ! $ move ! (1 ∷ []) $ facts ! (Numbers w8 1024) (Is (Numbers w8 1024)) (shows 𝓤 H A (Numbers w8 1024)) (ws .1 .1 .1 .1 .1 .1 .1 .0) _ (λ is₂.
-        move ! (5 ∷ []) $ lft-end ! tt $ move ! (0 ∷ 16 ∷ 11 ∷ []) $ use3 W (later (‵ (Cell w8 4096 l₁₂ (ws .1 .1 .1 .1 .1 .1 .1 .1 .0)) ⊛ ‵ (Owned w8 4096 (ws .1 .1 .1 .1 .1 .1 .1 .1 .0)))) (array-back w8 4096 𝓤 H A W (ν₃ ∷ []) l₁₂ δ₃ (ws .1 .1 .1 .1 .1 .1 .1 .1 .0)) $ await ! tt $ split ! $ move ! (1 ∷ []) $ facts ! (Numbers w8 4096) (Is (Numbers w8 4096)) (shows 𝓤 H A (Numbers w8 4096)) (ws .1 .1 .1 .1 .1 .1 .1 .1 .0) _ (λ is₃.
-        move ! (5 ∷ []) $ lft-end ! tt $ move ! (0 ∷ 14 ∷ 10 ∷ []) $ use3 W (later (‵ (Cell w16 4096 l₁₃ (ws .1 .1 .1 .1 .1 .1 .1 .1 .1 .0)) ⊛ ‵ (Owned w16 4096 (ws .1 .1 .1 .1 .1 .1 .1 .1 .1 .0)))) (array-back w16 4096 𝓤 H A W (ν₄ ∷ []) l₁₃ δ₄ (ws .1 .1 .1 .1 .1 .1 .1 .1 .1 .0)) $ await ! tt $ split ! $ move ! (1 ∷ []) $ facts ! (Numbers w16 4096) (Is (Numbers w16 4096)) (shows 𝓤 H A (Numbers w16 4096)) (ws .1 .1 .1 .1 .1 .1 .1 .1 .1 .0) _ (λ is₄.
+        move ! (5 ∷ []) $ lft-end ! tt $ move ! (0 ∷ 16 ∷ 11 ∷ []) $ use3 W (later (‵ (Cell w8 4080 l₁₂ (ws .1 .1 .1 .1 .1 .1 .1 .1 .0)) ⊛ ‵ (Owned w8 4080 (ws .1 .1 .1 .1 .1 .1 .1 .1 .0)))) (array-back w8 4080 𝓤 H A W (ν₃ ∷ []) l₁₂ δ₃ (ws .1 .1 .1 .1 .1 .1 .1 .1 .0)) $ await ! tt $ split ! $ move ! (1 ∷ []) $ facts ! (Numbers w8 4080) (Is (Numbers w8 4080)) (shows 𝓤 H A (Numbers w8 4080)) (ws .1 .1 .1 .1 .1 .1 .1 .1 .0) _ (λ is₃.
+        move ! (5 ∷ []) $ lft-end ! tt $ move ! (0 ∷ 14 ∷ 10 ∷ []) $ use3 W (later (‵ (Cell w16 4080 l₁₃ (ws .1 .1 .1 .1 .1 .1 .1 .1 .1 .0)) ⊛ ‵ (Owned w16 4080 (ws .1 .1 .1 .1 .1 .1 .1 .1 .1 .0)))) (array-back w16 4080 𝓤 H A W (ν₄ ∷ []) l₁₃ δ₄ (ws .1 .1 .1 .1 .1 .1 .1 .1 .1 .0)) $ await ! tt $ split ! $ move ! (1 ∷ []) $ facts ! (Numbers w16 4080) (Is (Numbers w16 4080)) (shows 𝓤 H A (Numbers w16 4080)) (ws .1 .1 .1 .1 .1 .1 .1 .1 .1 .0) _ (λ is₄.
         move ! (5 ∷ []) $ lft-end ! tt $ move ! (0 ∷ 12 ∷ 9 ∷ []) $ use3 W (later (‵ (Dumps (ws .1 .1 .1 .1 .1 .1 .1 .1 .1 .1 .0) (sv d)) ⊛ ‵ (flft κ₃ q₃))) (comes-back u8 κ₃ (ν₅ ∷ []) q₃ γ b e 𝓤 H A W (named 3) (named 7) d δ₅ (ws .1 .1 .1 .1 .1 .1 .1 .1 .1 .1 .0) room el) $ await ! tt $ split ! $
         move ! (9 ∷ []) $ peeks ! Pg.the-row (Is Pg.the-row) (shows 𝓤 H A Pg.the-row) z (v′ ∷ []) (λ isz.
         land-last ! (from ! (stop !)) (store ! 38 refl (LL.lawful Pg.the-type Pg′.the-laws 𝓤 H A W .typed z _ isz .0)) $ rewrite ! 38 (λ (u : Val). ‵ (fat fullShare Pg′.mir l₁₄ 0 u)) (ap only (LL.tells Pg.the-type Pg′.the-laws z _ isz)) refl $
@@ -461,21 +471,21 @@ module _ {M : Type 1} (𝓤 : URA M) (H : Heap 𝓤) (A : Atoms 𝓤) (W : Given
     -- where the walk comes to the code
     abbrev Before : List (Item 𝓤)
     Before = ‵ (Dumps d₀ (sv d₀)) ∷ ‵ (flft κ₃ q₃) ∷ ‵ Image ∷ ‵ (flft κ₀ q₀) ∷ ‵ Insts ∷ ‵ (flft κ₁ q₁) ∷ ‵ Labels ∷ ‵ (flft κ₂ q₂) ∷ ‵ (froom (tyArray (tyInt w8) 1024) l₂₆ 0) ∷ ‵ (fdies (tyArray (tyInt w8) 1024) l₂₆) ∷ ‵ (froom (tyArray (tyInt w64) 1024) l₂₅ 0) ∷ ‵ (fdies (tyArray (tyInt w64) 1024) l₂₅) ∷ ‵ (froom (tyArray (tyInt w64) 1024) l₂₄ 0) ∷ ‵ (fdies (tyArray (tyInt w64) 1024) l₂₄) ∷ ‵ (froom (sliceTy thin) l₂₃ 0) ∷ ‵ (fdies (sliceTy thin) l₂₃) ∷ ‵ (froom thin l₂₂ 0) ∷ ‵ (fdies thin l₂₂)
-        ∷ ‵ (froom (tyRef erased mut (tyArray (tyInt w16) 4096)) l₂₁ 0) ∷ ‵ (fdies (tyRef erased mut (tyArray (tyInt w16) 4096)) l₂₁) ∷ ‵ (froom (tyRef erased mut (tyArray (tyInt w8) 4096)) l₂₀ 0) ∷ ‵ (fdies (tyRef erased mut (tyArray (tyInt w8) 4096)) l₂₀) ∷ ‵ (froom (tyRef erased mut (tyArray (tyInt w8) 1024)) l₁₉ 0) ∷ ‵ (fdies (tyRef erased mut (tyArray (tyInt w8) 1024)) l₁₉) ∷ ‵ (froom (tyRef erased mut (tyArray (tyInt w64) 1024)) l₁₈ 0) ∷ ‵ (fdies (tyRef erased mut (tyArray (tyInt w64) 1024)) l₁₈) ∷ ‵ (froom (tyRef erased mut (tyArray (tyInt w64) 1024)) l₁₇ 0) ∷ ‵ (fdies (tyRef erased mut (tyArray (tyInt w64) 1024)) l₁₇)
-        ∷ ‵ (froom tyBool l₁₆ 0) ∷ ‵ (fdies tyBool l₁₆) ∷ ‵ (froom word l₁₅ 0) ∷ ‵ (fdies word l₁₅) ∷ ‵ (froom Pg′.mir l₁₄ 0) ∷ ‵ (fdies Pg′.mir l₁₄) ∷ ‵ (froom (tyArray (tyInt w16) 4096) l₁₃ 0) ∷ ‵ (fdies (tyArray (tyInt w16) 4096) l₁₃) ∷ ‵ (froom (tyArray (tyInt w8) 4096) l₁₂ 0) ∷ ‵ (fdies (tyArray (tyInt w8) 4096) l₁₂)
+        ∷ ‵ (froom (tyRef erased mut (tyArray (tyInt w16) 4080)) l₂₁ 0) ∷ ‵ (fdies (tyRef erased mut (tyArray (tyInt w16) 4080)) l₂₁) ∷ ‵ (froom (tyRef erased mut (tyArray (tyInt w8) 4080)) l₂₀ 0) ∷ ‵ (fdies (tyRef erased mut (tyArray (tyInt w8) 4080)) l₂₀) ∷ ‵ (froom (tyRef erased mut (tyArray (tyInt w8) 1024)) l₁₉ 0) ∷ ‵ (fdies (tyRef erased mut (tyArray (tyInt w8) 1024)) l₁₉) ∷ ‵ (froom (tyRef erased mut (tyArray (tyInt w64) 1024)) l₁₈ 0) ∷ ‵ (fdies (tyRef erased mut (tyArray (tyInt w64) 1024)) l₁₈) ∷ ‵ (froom (tyRef erased mut (tyArray (tyInt w64) 1024)) l₁₇ 0) ∷ ‵ (fdies (tyRef erased mut (tyArray (tyInt w64) 1024)) l₁₇)
+        ∷ ‵ (froom tyBool l₁₆ 0) ∷ ‵ (fdies tyBool l₁₆) ∷ ‵ (froom Fd′.mir l₁₅ 0) ∷ ‵ (fdies Fd′.mir l₁₅) ∷ ‵ (froom Pg′.mir l₁₄ 0) ∷ ‵ (fdies Pg′.mir l₁₄) ∷ ‵ (froom (tyArray (tyInt w16) 4080) l₁₃ 0) ∷ ‵ (fdies (tyArray (tyInt w16) 4080) l₁₃) ∷ ‵ (froom (tyArray (tyInt w8) 4080) l₁₂ 0) ∷ ‵ (fdies (tyArray (tyInt w8) 4080) l₁₂)
         ∷ ‵ (froom (tyArray (tyInt w8) 1024) l₁₁ 0) ∷ ‵ (fdies (tyArray (tyInt w8) 1024) l₁₁) ∷ ‵ (froom (tyArray (tyInt w64) 1024) l₁₀ 0) ∷ ‵ (fdies (tyArray (tyInt w64) 1024) l₁₀) ∷ ‵ (froom (tyArray (tyInt w64) 1024) l₉ 0) ∷ ‵ (fdies (tyArray (tyInt w64) 1024) l₉) ∷ ‵ (froom Co′.mir l₈ 0) ∷ ‵ (fdies Co′.mir l₈) ∷ ‵ (fat fullShare cells l₇ 0 (sv d₀)) ∷ ‵ (fdies cells l₇)
         ∷ ‵ (fat fullShare word l₆ 0 (vint w64 limit)) ∷ ‵ (fdies word l₆) ∷ ‵ (fat fullShare Mc′.mir l₅ 0 mv) ∷ ‵ (fdies Mc′.mir l₅) ∷ ‵ (fat fullShare word l₄ 0 (vint w64 c)) ∷ ‵ (fdies word l₄) ∷ ‵ (fat fullShare slice l₃ 0 lv) ∷ ‵ (fdies slice l₃) ∷ ‵ (fat fullShare words l₂ 0 iv) ∷ ‵ (fdies words l₂)
         ∷ ‵ (fat fullShare bytes l₁ 0 gv) ∷ ‵ (fdies bytes l₁) ∷ ‵ (froom Rn′.mir l₀ 0) ∷ ‵ (fdies Rn′.mir l₀) ∷ []
 
-    begins : Fit w8 4096 (replicate 4096 255) → Fit w16 4096 (replicate 4096 0) → Sq W Before (runs C Λ E body.t-1 (atRet E Post))
+    begins : Fit w8 4080 (replicate 4080 255) → Fit w16 4080 (replicate 4080 0) → Sq W Before (runs C Λ E body.t-1 (atRet E Post))
     begins is₃ is₄ =
         let fm = LL.owed Mc.the-type Mc′.the-laws m _ is-m in
         assigns ! (agg ! (and-then ! (load ! (from ! (fld ! refl (stop !))) (look-in ! 50 (sub ! 6 refl (whole !)))) (and-then ! (load ! (from ! (fld ! refl (stop !))) (look-in ! 50 (sub ! 1 refl (whole !)))) (and-then ! (load ! (from ! (fld ! refl (stop !))) (look-in ! 50 (sub ! 3 refl (whole !)))) (no-more !))))) (from ! (stop !)) (init ! 44 refl (LL.lawful Co.the-type Co′.the-laws 𝓤 H A W .typed (core m) _ (is-core m is-m) .0)) $
         assigns ! (of-opd ! (load ! (from ! (fld ! refl (stop !))) (look-in ! 50 (sub ! 0 refl (whole !))))) (from ! (stop !)) (init ! 42 refl (array-lawful 𝓤 H A W (UInt w64) (uint-lawful 𝓤 H A W w64) 1024 .typed (same (m .stack)) _ (fm .0) .0)) $ rewrite ! 42 (λ (xs : List ℕ). ‵ (Cell w64 1024 l₉ xs)) (same-is (m .stack)) refl $
         assigns ! (of-opd ! (load ! (from ! (fld ! refl (stop !))) (look-in ! 50 (sub ! 2 refl (whole !))))) (from ! (stop !)) (init ! 40 refl (array-lawful 𝓤 H A W (UInt w64) (uint-lawful 𝓤 H A W w64) 1024 .typed (same (m .calls)) _ (fm .1 .1 .0) .0)) $ rewrite ! 40 (λ (xs : List ℕ). ‵ (Cell w64 1024 l₁₀ xs)) (same-is (m .calls)) refl $
         assigns ! (of-opd ! (load ! (from ! (fld ! refl (stop !))) (look-in ! 50 (sub ! 4 refl (whole !))))) (from ! (stop !)) (init ! 38 refl (array-lawful 𝓤 H A W (UInt w8) (uint-lawful 𝓤 H A W w8) 1024 .typed (same (m .memory)) _ (fm .1 .1 .1 .1 .0) .0)) $ rewrite ! 38 (λ (xs : List ℕ). ‵ (Cell w8 1024 l₁₁ xs)) (same-is (m .memory)) refl $
-        assigns ! (rep ! 4096 (neg-lit ! tt)) (from ! (stop !)) (init ! 36 refl (array-lawful 𝓤 H A W (UInt w8) (uint-lawful 𝓤 H A W w8) 4096 .typed (replicate 4096 255) _ is₃ .0)) $
-        assigns ! (rep ! 4096 (lit ! tt)) (from ! (stop !)) (init ! 34 refl (array-lawful 𝓤 H A W (UInt w16) (uint-lawful 𝓤 H A W w16) 4096 .typed (replicate 4096 0) _ is₄ .0)) $
+        assigns ! (rep ! 4080 (neg-lit ! tt)) (from ! (stop !)) (init ! 36 refl (array-lawful 𝓤 H A W (UInt w8) (uint-lawful 𝓤 H A W w8) 4080 .typed (replicate 4080 255) _ is₃ .0)) $
+        assigns ! (rep ! 4080 (lit ! tt)) (from ! (stop !)) (init ! 34 refl (array-lawful 𝓤 H A W (UInt w16) (uint-lawful 𝓤 H A W w16) 4080 .typed (replicate 4080 0) _ is₄ .0)) $
         -- o = begin(insts, count, core, m.flags, m.halted, limit)
         move ! (5 ∷ 4 ∷ []) $ cut From-begin (raw (Begin 𝓤 H A mem run .pre to-begin) ∷ ‵ Insts ∷ []) _ (goes-begin fc fl is-m) $
         calls-at ! (fmOf 𝓤 H (W .laws) 𝓣) (Begin 𝓤 H A mem run) (knows .begins) to-begin (and-then ! (load ! (from ! (stop !)) (look ! 56 refl)) (and-then ! (load ! (from ! (stop !)) (look ! 52 refl)) (and-then ! (load ! (from ! (stop !)) (look ! 44 refl)) (and-then ! (load ! (from ! (fld ! refl (stop !))) (look-in ! 50 (sub ! 5 refl (whole !)))) (and-then ! (load ! (from ! (fld ! refl (stop !))) (look-in ! 50 (sub ! 7 refl (whole !)))) (and-then ! (load ! (from ! (stop !)) (look ! 48 refl)) (no-more !))))))) (λ v.
@@ -490,10 +500,10 @@ module _ {M : Type 1} (𝓤 : URA M) (H : Heap 𝓤) (A : Atoms 𝓤) (W : Given
         → ent 𝓤 (onEntry 𝓤 H A exec′.signature (κ₀, (κ₁, (κ₂, (κ₃, tt)))) (q₀, (q₁, (q₂, (q₃, tt)))) a vs) (WpFn 𝓤 H (𝓣 .C) (𝓣 .Λ) code.function (gv ∷ iv ∷ lv ∷ vint w64 c ∷ mv ∷ vint w64 limit ∷ sv d₀ ∷ []) Post)
     walk gg gi gl fc is-m fl gd =
         qed W ((‵ (flft κ₀ q₀) ⊛ ‵ (flft κ₁ q₁) ⊛ ‵ (flft κ₂ q₂) ⊛ ‵ (flft κ₃ q₃) ⊛ ‵ ftrue) ∷ ‵ (owns (ShrSlice (named 0) κ₀ u8 ∷ ShrSlice (named 1) κ₁ u8 ∷ ShrSlice (named 2) κ₂ T′.the-row ∷ usize ∷ Mc.the-row ∷ u64 ∷ MutSlice (named 3) κ₃ u8 ∷ []) a vs) ∷ []) ∵
-        owned ! (UInt w8) (Is (UInt w8)) (uint-makes 𝓤 H A W w8) 255 (vint w8 255 ∷ []) (refl, omega arith) $ use1 W (‵ (Owned w8 4096 (replicate 4096 255))) (array-repeat 𝓤 H A W (UInt w8) (uint-copy 𝓤 H A W w8) 4096 255 (vint w8 255)) $
-        facts ! (Numbers w8 4096) (Is (Numbers w8 4096)) (shows 𝓤 H A (Numbers w8 4096)) (replicate 4096 255) _ (λ is₃.
-        owned ! (UInt w16) (Is (UInt w16)) (uint-makes 𝓤 H A W w16) 0 (vint w16 0 ∷ []) (refl, omega arith) $ use1 W (‵ (Owned w16 4096 (replicate 4096 0))) (array-repeat 𝓤 H A W (UInt w16) (uint-copy 𝓤 H A W w16) 4096 0 (vint w16 0)) $
-        facts ! (Numbers w16 4096) (Is (Numbers w16 4096)) (shows 𝓤 H A (Numbers w16 4096)) (replicate 4096 0) _ (λ is₄.
+        owned ! (UInt w8) (Is (UInt w8)) (uint-makes 𝓤 H A W w8) 255 (vint w8 255 ∷ []) (refl, omega arith) $ use1 W (‵ (Owned w8 4080 (replicate 4080 255))) (array-repeat 𝓤 H A W (UInt w8) (uint-copy 𝓤 H A W w8) 4080 255 (vint w8 255)) $
+        facts ! (Numbers w8 4080) (Is (Numbers w8 4080)) (shows 𝓤 H A (Numbers w8 4080)) (replicate 4080 255) _ (λ is₃.
+        owned ! (UInt w16) (Is (UInt w16)) (uint-makes 𝓤 H A W w16) 0 (vint w16 0 ∷ []) (refl, omega arith) $ use1 W (‵ (Owned w16 4080 (replicate 4080 0))) (array-repeat 𝓤 H A W (UInt w16) (uint-copy 𝓤 H A W w16) 4080 0 (vint w16 0)) $
+        facts ! (Numbers w16 4080) (Is (Numbers w16 4080)) (shows 𝓤 H A (Numbers w16 4080)) (replicate 4080 0) _ (λ is₄.
         enter ! (𝓣 .C) (𝓣 .Λ) code.function (gv ∷ iv ∷ lv ∷ vint w64 c ∷ mv ∷ vint w64 limit ∷ sv d₀ ∷ []) _ $
         alloc1 ! (λ l₀. alloc1 ! (λ l₁. alloc1 ! (λ l₂. alloc1 ! (λ l₃. alloc1 ! (λ l₄. alloc1 ! (λ l₅. alloc1 ! (λ l₆. alloc1 ! (λ l₇. alloc1 ! (λ l₈. alloc1 ! (λ l₉. alloc1 ! (λ l₁₀. alloc1 ! (λ l₁₁. alloc1 ! (λ l₁₂. alloc1 ! (λ l₁₃. alloc1 ! (λ l₁₄. alloc1 ! (λ l₁₅. alloc1 ! (λ l₁₆. alloc1 ! (λ l₁₇. alloc1 ! (λ l₁₈. alloc1 ! (λ l₁₉. alloc1 ! (λ l₂₀. alloc1 ! (λ l₂₁. alloc1 ! (λ l₂₂. alloc1 ! (λ l₂₃. alloc1 ! (λ l₂₄. alloc1 ! (λ l₂₅. alloc1 ! (λ l₂₆. alloc0 ! $ params1 ! $
         pass1 ! (init ! 50 refl (tt, (tt, (record { fits = gg .0 }, tt)))) $ pass1 ! (init ! 48 refl (tt, (tt, (record { fits = gi .0 }, tt)))) $ pass1 ! (init ! 46 refl (tt, (tt, (record { fits = gl .0 }, tt)))) $ pass1 ! (init ! 44 refl (tt, record { fits = fc })) $ pass1 ! (init ! 42 refl (LL.lawful Mc.the-type Mc′.the-laws 𝓤 H A W .typed m _ is-m .0)) $ pass1 ! (init ! 40 refl (tt, record { fits = fl })) $ pass1 ! (init ! 38 refl (tt, (tt, (record { fits = gd .0 }, tt)))) $ pass0 ! $

@@ -35,6 +35,7 @@ use denote.Signature.{plain}
 use denote.Builtin.{u8, u64, usize}
 use denote.Steps.{only, owned, peeks, heard, nothing}
 use denote.Struct.Laws as LL
+use denote.Enum.Laws as EL
 use denote.Triple.Statement.{Contract, Triple}
 use denote.Triple.Call.{calls-at, calls-at-last}
 use denote.Triple.Clauses.{ensured, lasts}
@@ -48,6 +49,9 @@ use Rattle.machine.specs.declared.Label.{Label}
 use Rattle.machine.specs.Load.{head}
 use Rattle.machine.proofs.Label as T′
 use Rattle.machine.proofs.Label.Laws as L′
+use Rattle.step_core.specs.declared.LookedUp.{LookedUp}
+use Rattle.step_core.proofs.LookedUp as Fd
+use Rattle.step_core.proofs.LookedUp.Laws as Fd′
 use Rattle.lookup.specs.declared.Walk.{Walk}
 use Rattle.lookup.specs.Walks.{lent, Finds, Walks, Judges}
 use Rattle.lookup.proofs.Bytes.{in-image}
@@ -80,6 +84,9 @@ label l = LL.val T′.the-type L′.the-laws l
 
 abbrev wv : Walk → Val
 wv w = LL.val Wk.the-type Wk′.the-laws w
+
+abbrev fv : LookedUp → Val
+fv r = EL.val Fd.the-type Fd′.the-laws r
 
 is-own : (r : Walk) (v : Val) → Is Wk.the-row r (v ∷ []) → Is Wk.the-row r (wv r ∷ [])
 is-own r v is = subst (Is Wk.the-row r) (LL.tells Wk.the-type Wk′.the-laws r _ is) is
@@ -143,13 +150,13 @@ module _ {M : Type 1} (𝓤 : URA M) (H : Heap 𝓤) (A : Atoms 𝓤) (W : Given
   abbrev Numbers : Fml
   Numbers = owns (usize ∷ u64 ∷ u64 ∷ []) (c, (s, (n, tt))) (vint w64 c ∷ [], (vint w64 s ∷ [], (vint w64 n ∷ [], tt)))
 
-  exits : (r : ℕ) → r < 2 ^ 64 → ((insts : List Inst) → Finds (lent (g .now) insts ys c) s n r) → ent 𝓤 (⋆ 𝓤 H A (‵ (flft κ′ p) ∷ ‵ Shared ∷ ‵ (flft κ q) ∷ ‵ Known ∷ ‵ Fact ∷ ‵ Numbers ∷ ‵ Image ∷ [])) (Post (vint w64 r))
-  exits r fits e =
+  exits : (r : LookedUp) → Is Fd.the-row r (fv r ∷ []) → ((insts : List Inst) → Finds (lent (g .now) insts ys c) s n r) → ent 𝓤 (⋆ 𝓤 H A (‵ (flft κ′ p) ∷ ‵ Shared ∷ ‵ (flft κ q) ∷ ‵ Known ∷ ‵ Fact ∷ ‵ Numbers ∷ ‵ Image ∷ [])) (Post (fv r))
+  exits r is e =
       qed W (‵ (flft κ′ p) ∷ ‵ Shared ∷ ‵ (flft κ q) ∷ ‵ Known ∷ ‵ Fact ∷ ‵ Numbers ∷ ‵ Image ∷ []) ∵
-      suffices ! _ (ends-at 𝓤 H A lookup.ended stayed (lookup.clauses 𝓤 H A mem run) W (((κ, (κ′, tt)), (q, (p, tt)), tt, x, vs), tt) (vint w64 r) r (tt, (tt, (tt, (tt, (tt, tt))))) (tt, (tt, (tt, (tt, (tt, tt)))))) $ says ! e $
+      suffices ! _ (ends-at 𝓤 H A lookup.ended stayed (lookup.clauses 𝓤 H A mem run) W (((κ, (κ′, tt)), (q, (p, tt)), tt, x, vs), tt) (fv r) r (tt, (tt, (tt, (tt, (tt, tt))))) (tt, (tt, (tt, (tt, (tt, tt)))))) $ says ! e $
       nothing ! $ move ! (1 ∷ 0 ∷ []) $ join ! $ move ! (2 ∷ 0 ∷ []) $ join ! $ frame ! $
       -- [what the table is shared by; what is known of the list; the slice's fact; the numbers'; the image]
-      move ! (1 ∷ 0 ∷ []) $ fjoin ! $ move ! (1 ∷ 0 ∷ []) $ fjoin ! $ fjoin ! $ move ! (1 ∷ 0 ∷ []) $ fjoin ! $ frame ! $ owned ! u64 (Is u64) (uint-makes 𝓤 H A W w64) r _ (refl, fits) $ done !
+      move ! (1 ∷ 0 ∷ []) $ fjoin ! $ move ! (1 ∷ 0 ∷ []) $ fjoin ! $ fjoin ! $ move ! (1 ∷ 0 ∷ []) $ fjoin ! $ frame ! $ owned ! Fd.the-row (Is Fd.the-row) (EL.makes Fd.the-type Fd′.the-plain 𝓤 H A) r _ is $ done !
 
   -- what both calls are made from: the image's token and the image, which is copied
   abbrev From : List (Item 𝓤)
@@ -208,14 +215,14 @@ module _ {M : Type 1} (𝓤 : URA M) (H : Heap 𝓤) (A : Atoms 𝓤) (W : Given
     Λ = 𝓣 .Λ
 
     abbrev E : Env 𝓤 H
-    E = (word, l₀) ∷ (bytes, l₁) ∷ (slice, l₂) ∷ (word, l₃) ∷ (word, l₄) ∷ (word, l₅) ∷ (Wk′.mir, l₆) ∷ (L′.mir, l₇) ∷ (word, l₈) ∷ (tyBool, l₉) ∷ (word, l₁₀) ∷ (tyPtr, l₁₁) ∷ (L′.mir, l₁₂) ∷ []
+    E = (Fd′.mir, l₀) ∷ (bytes, l₁) ∷ (slice, l₂) ∷ (word, l₃) ∷ (word, l₄) ∷ (word, l₅) ∷ (Wk′.mir, l₆) ∷ (L′.mir, l₇) ∷ (word, l₈) ∷ (tyBool, l₉) ∷ (word, l₁₀) ∷ (tyPtr, l₁₁) ∷ (L′.mir, l₁₂) ∷ []
 
     -- where a turn begins: the table's row, its open borrow and what it is shared by; the image's token; what is known of the list, of the slice and of the numbers; the image; the locals from the last one on
     abbrev At : Share → Walk → List (Item 𝓤)
     At q′ w = ‵ (row T′.the-row q′ ys b o) ∷ ‵ (fobor κ′ p (arr-parts (shares T′.the-row) (length ys) .part q′ ys b o)) ∷ ‵ Shared ∷ ‵ (flft κ q) ∷ ‵ Known ∷ ‵ Fact ∷ ‵ Numbers ∷ ‵ Image
         ∷ ‵ (froom L′.mir l₁₂ 0) ∷ ‵ (fdies L′.mir l₁₂) ∷ ‵ (froom tyPtr l₁₁ 0) ∷ ‵ (fdies tyPtr l₁₁) ∷ ‵ (froom word l₁₀ 0) ∷ ‵ (fdies word l₁₀) ∷ ‵ (froom tyBool l₉ 0) ∷ ‵ (fdies tyBool l₉) ∷ ‵ (fat fullShare word l₈ 0 (vint w64 (length ys))) ∷ ‵ (fdies word l₈)
         ∷ ‵ (froom L′.mir l₇ 0) ∷ ‵ (fdies L′.mir l₇) ∷ ‵ (fat fullShare Wk′.mir l₆ 0 (wv w)) ∷ ‵ (fdies Wk′.mir l₆) ∷ ‵ (fat fullShare word l₅ 0 (vint w64 n)) ∷ ‵ (fdies word l₅) ∷ ‵ (fat fullShare word l₄ 0 (vint w64 s)) ∷ ‵ (fdies word l₄) ∷ ‵ (fat fullShare word l₃ 0 (vint w64 c)) ∷ ‵ (fdies word l₃)
-        ∷ ‵ (fat fullShare slice l₂ 0 (sliceVal (b, o) (length ys))) ∷ ‵ (fdies slice l₂) ∷ ‵ (fat fullShare bytes l₁ 0 gv) ∷ ‵ (fdies bytes l₁) ∷ ‵ (froom word l₀ 0) ∷ ‵ (fdies word l₀) ∷ []
+        ∷ ‵ (fat fullShare slice l₂ 0 (sliceVal (b, o) (length ys))) ∷ ‵ (fdies slice l₂) ∷ ‵ (fat fullShare bytes l₁ 0 gv) ∷ ‵ (fdies bytes l₁) ∷ ‵ (froom Fd′.mir l₀ 0) ∷ ‵ (fdies Fd′.mir l₀) ∷ []
 
     abbrev I : Share → St → List (Item 𝓤)
     I q′ t = At q′ (t .0 .w)
@@ -254,10 +261,10 @@ module _ {M : Type 1} (𝓤 : URA M) (H : Heap 𝓤) (A : Atoms 𝓤) (W : Given
         again ! Low (I q′) t (onward (g .now) ys c s n (t .0) on r led, is-own r v isr) (lower (g .now) ys c s n (t .0) on r led)))))))
         (λ h. exec ! C Λ E body.t-4 (atRet E Post) $ shuts-slice ! tt T′.the-row q′ ys b o $
         -- [the table's token; what it is shared by; ...]
-        assigns ! (of-opd ! (load ! (from ! (fld ! refl (stop !))) (look-in ! 19 (sub ! 3 refl (whole !))))) (from ! (stop !)) (init ! 31 refl (tt, record { fits = f .1 .1 .1 .0 .1 })) $
+        assigns ! (of-opd ! (load ! (from ! (fld ! refl (stop !))) (look-in ! 19 (sub ! 3 refl (whole !))))) (from ! (stop !)) (init ! 31 refl (EL.lawful Fd.the-type Fd′.the-laws 𝓤 H A W tt .typed (w .answer) _ (f .1 .1 .1 .0) .0)) $
         returns ! (look ! 31 refl) $ forget ! 13 refl $ forget ! 15 refl $ forget ! 19 refl $ forget ! 21 refl $ forget ! 23 refl $ forget ! 25 refl $ forget ! 27 refl $ forget ! 29 refl $ forget ! 31 refl $
         move ! (31 ∷ 32 ∷ []) $ free1 ! $ move ! (29 ∷ 30 ∷ []) $ free1 ! $ move ! (27 ∷ 28 ∷ []) $ free1 ! $ move ! (25 ∷ 26 ∷ []) $ free1 ! $ move ! (23 ∷ 24 ∷ []) $ free1 ! $ move ! (21 ∷ 22 ∷ []) $ free1 ! $ move ! (19 ∷ 20 ∷ []) $ free1 ! $ move ! (17 ∷ 18 ∷ []) $ free1 ! $ move ! (15 ∷ 16 ∷ []) $ free1 ! $ move ! (13 ∷ 14 ∷ []) $ free1 ! $ move ! (11 ∷ 12 ∷ []) $ free1 ! $ move ! (9 ∷ 10 ∷ []) $ free1 ! $ move ! (7 ∷ 8 ∷ []) $ free1 ! $ free0 ! $
-        by ! (exits (w .answer) (f .1 .1 .1 .0 .1) (over (g .now) ys c s n (t .0) (no-is (w .on) h))))
+        by ! (exits (w .answer) (f .1 .1 .1 .0) (over (g .now) ys c s n (t .0) (no-is (w .on) h))))
 
     turns : (q′ : Share) (t : St) → Sq W (I q′ t) (runs C Λ E body.s-3 (anyQ (afterSeq 𝓤 H (Wp 𝓤 H C Λ E body.t-4 (atReturn 𝓤 H E Post)) (atReturn 𝓤 H E Post))))
     turns q′ t = blocks ! $ loops ! 𝓣 Low (InvImage·wf (λ (u : St). u .0) (falls (g .now) ys c s n)) (I q′) (turn q′) t
@@ -266,7 +273,7 @@ module _ {M : Type 1} (𝓤 : URA M) (H : Heap 𝓤) (A : Atoms 𝓤) (W : Given
     abbrev Before : List (Item 𝓤)
     Before = ‵ (flft κ′ p) ∷ ‵ Shared ∷ ‵ (flft κ q) ∷ ‵ Known ∷ ‵ Fact ∷ ‵ Numbers ∷ ‵ Image ∷ ‵ (froom L′.mir l₁₂ 0) ∷ ‵ (fdies L′.mir l₁₂) ∷ ‵ (froom tyPtr l₁₁ 0) ∷ ‵ (fdies tyPtr l₁₁) ∷ ‵ (froom word l₁₀ 0) ∷ ‵ (fdies word l₁₀) ∷ ‵ (froom tyBool l₉ 0) ∷ ‵ (fdies tyBool l₉) ∷ ‵ (froom word l₈ 0) ∷ ‵ (fdies word l₈)
         ∷ ‵ (froom L′.mir l₇ 0) ∷ ‵ (fdies L′.mir l₇) ∷ ‵ (froom Wk′.mir l₆ 0) ∷ ‵ (fdies Wk′.mir l₆) ∷ ‵ (fat fullShare word l₅ 0 (vint w64 n)) ∷ ‵ (fdies word l₅) ∷ ‵ (fat fullShare word l₄ 0 (vint w64 s)) ∷ ‵ (fdies word l₄) ∷ ‵ (fat fullShare word l₃ 0 (vint w64 c)) ∷ ‵ (fdies word l₃)
-        ∷ ‵ (fat fullShare slice l₂ 0 (sliceVal (b, o) (length ys))) ∷ ‵ (fdies slice l₂) ∷ ‵ (fat fullShare bytes l₁ 0 gv) ∷ ‵ (fdies bytes l₁) ∷ ‵ (froom word l₀ 0) ∷ ‵ (fdies word l₀) ∷ []
+        ∷ ‵ (fat fullShare slice l₂ 0 (sliceVal (b, o) (length ys))) ∷ ‵ (fdies slice l₂) ∷ ‵ (fat fullShare bytes l₁ 0 gv) ∷ ‵ (fdies bytes l₁) ∷ ‵ (froom Fd′.mir l₀ 0) ∷ ‵ (fdies Fd′.mir l₀) ∷ []
 
     begins : Sq W Before (runs C Λ E body.t-1 (atRet E Post))
     begins =

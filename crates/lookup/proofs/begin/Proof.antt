@@ -1,7 +1,7 @@
 -- `lookup::begin` meets its contract. Assumes nothing.
 use mathlib.Core.Path.{refl, sym, _∙_}
 use native.Mathlib.Omega.{arith}
-use Rattle.lookup.proofs.Chain.{over, no-name, finds, begins, headless, found-ill}
+use Rattle.lookup.proofs.Chain.{over, no-name, finds, begins, headless}
 use borrow.Author.Needs.{needs}
 use Rattle.lookup.proofs.begin.Statement.{statement}
 use Rattle.lookup.proofs.begin.Tie as tie
@@ -10,7 +10,7 @@ returns : tie.Need-returns
 returns c insts labels count e = begins _ _ _ _ (sym (c .before .before .name-in .ensures) ∙ c .before .if1 .taken) e (c .if2 .taken)
 
 returns-2 : tie.Need-returns-2
-returns-2 c insts labels count e = rw (c .answers .ensures) (over _ _ _ _ (finds _ _ _ _ (sym (c .before .before .before .name-in .ensures) ∙ c .before .before .if1 .taken) (search needs) (λ b. found-ill ∙ sym (headless _ (c .before .before .before .before .before .args .start) (c .before .before .before .before .before .args .len) (omega (arith, e, c .before .if2 .left))))))
+returns-2 c insts labels count e = rw (c .answers .ensures) (over _ _ _ _ (finds _ _ _ _ (sym (c .before .before .before .name-in .ensures) ∙ c .before .before .if1 .taken) refl (sym (headless _ (c .before .before .before .before .before .args .start) (c .before .before .before .before .before .args .len) (omega (arith, e, c .before .if2 .left))))))
 
 returns-3 : tie.Need-returns-3
 returns-3 c insts labels count e = rw (c .answers2 .ensures) (over _ _ _ _ (no-name _ _ _ _ (sym (c .before .before .name-in .ensures) ∙ c .before .if1 .left) refl))

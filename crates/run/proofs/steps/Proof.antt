@@ -7,14 +7,14 @@ use Rattle.run.proofs.steps.Statement.{statement}
 use Rattle.run.proofs.steps.Tie as tie
 
 abbrev Inv-loop : tie.InvT-loop
-Inv-loop image insts count asked stack₀ calls₀ memory₀ keys₀ targets₀ dumps₀ forms core₀ flags₀ left₀ n₀ found₀ stack calls memory keys targets dumps core flags left n found =
-    Loops image insts count core₀ flags₀ left₀ n₀ asked dumps₀ keys₀ targets₀ stack₀ calls₀ memory₀ core flags left n found dumps keys targets stack calls memory
+Inv-loop image insts count stack₀ calls₀ memory₀ keys₀ targets₀ dumps₀ forms core₀ flags₀ left₀ n₀ found₀ stack calls memory keys targets dumps core flags left n found =
+    Loops image insts count core₀ flags₀ left₀ n₀ found₀ dumps₀ keys₀ targets₀ stack₀ calls₀ memory₀ core flags left n found dumps keys targets stack calls memory
 
 abbrev μ-loop : tie.MeasureT-loop
-μ-loop image insts count asked stack₀ calls₀ memory₀ keys₀ targets₀ dumps₀ forms core₀ flags₀ left₀ n₀ found₀ stack calls memory keys targets dumps core flags left n found = left
+μ-loop image insts count stack₀ calls₀ memory₀ keys₀ targets₀ dumps₀ forms core₀ flags₀ left₀ n₀ found₀ stack calls memory keys targets dumps core flags left n found = left
 
 loop-holds : tie.Need-loop-holds Inv-loop μ-loop
-loop-holds c = loop-starts _ _ _ _ _ _ _ _ _ _ _ (omega (arith, c .before .before .before .before .before .pre .inside)) (c .before .before .before .before .before .pre .small) (c .before .before .before .before .before .pre .filled) (c .before .before .before .before .before .pre .sized) (c .before .before .before .before .before .pre .listed)
+loop-holds c = loop-starts _ _ _ _ _ _ _ _ _ _ _ (c .before .before .before .before .before .pre .small) (c .before .before .before .before .before .pre .filled) (c .before .before .before .before .before .pre .sized) (c .before .before .before .before .before .pre .listed)
 
 step-requires : tie.Need-step-requires Inv-loop μ-loop
 step-requires c κs = (c .before .before .before .before .before .before .before .before .before .form-table .ensures, (c .before .before .before .before .before .before .before .loop .inv .small, c .before .before .before .before .before .before .before .before .before .before .before .before .before .pre .inside, c .before .before .before .before .before .before .before .loop .inv .sized, c .before .before .before .before .before .before .before .loop .inv .listed))
@@ -38,13 +38,13 @@ same-length : tie.Need-same-length Inv-loop μ-loop
 same-length c = end-long _ (rw (c .before .turn2 .given .1) at (c .before .before .before .before .before .follow .ensures)) ∙ c .before .before .before .before .before .before .before .before .before .before .before .before .before .before .before .loop .inv .long
 
 returns : tie.Need-returns Inv-loop μ-loop
-returns c = advances (c .before .before .before .before .before .before .before .before .before .before .before .before .before .before .before .loop .inv .fits) (loop-stops (c .before .before .before .before .before .before .before .before .before .before .before .before .before .before .before .loop .inv) (c .before .before .before .before .before .before .before .before .before .before .before .before .before .before .loop-test .taken) _ (c .before .before .before .before .before .before .before .step .ensures) (rw (c .before .turn2 .given .1) at (c .before .before .before .before .before .follow .ensures)))
+returns c = advances (loop-stops (c .before .before .before .before .before .before .before .before .before .before .before .before .before .before .before .loop .inv) (c .before .before .before .before .before .before .before .before .before .before .before .before .before .before .loop-test .taken) _ (c .before .before .before .before .before .before .before .step .ensures) (rw (c .before .turn2 .given .1) at (c .before .before .before .before .before .follow .ensures)))
 
 same-length-2 : tie.Need-same-length-2 Inv-loop μ-loop
 same-length-2 c = c .before .before .loop .inv .long
 
 returns-2 : tie.Need-returns-2 Inv-loop μ-loop
-returns-2 c = rw (c .ends .ensures) (advances (c .before .before .loop .inv .fits) (loop-over (c .before .before .loop .inv) (omega (arith, c .before .loop-test .left))))
+returns-2 c = rw (c .ends .ensures) (advances (loop-over (c .before .before .loop .inv) (omega (arith, c .before .loop-test .left))))
 
 pub steps-spec : {M : Type 1} → statement M
 steps-spec =

@@ -12,7 +12,7 @@ use Rattle.known.specs.Known.{instOf, KnownAt}
 use Rattle.tables.specs.Tables.{numberAt, instsOf}
 use Rattle.lookup.specs.Walks.{lent}
 use Rattle.known.proofs.Keeping.{plain-formed, plain-no-lookup, learns-sized, learns, keeps-jump-sized, keeps-jump}
-use Rattle.step.proofs.Whole.{found-target, name-lies, known-at, step-past, step-unformed, made-found, made-acts}
+use Rattle.step.proofs.Whole.{at-target, name-lies, known-at, step-past, step-unformed, made-found, made-acts}
 use borrow.Author.Needs.{needs}
 use Rattle.step.proofs.step.Statement.{statement}
 use Rattle.step.proofs.step.Tie as tie
@@ -25,14 +25,14 @@ returns-2 c = record { small = tt; sized = c .before .before .before .before .be
 
 returns-3 : tie.Need-returns-3
 returns-3 c =
-    let formed = sym (c .before .before .before .before .before .before .before .is-well-formed-at .ensures) ∙ not-false _ (c .before .before .before .before .before .before .if2 .left) in
-    record { small = tt; sized = c .before .before .before .before .before .before .before .before .before .before .before .pre .1 .2; listed = c .before .before .before .before .before .before .before .before .before .before .before .pre .1 .3; tried = λ labels told. (c .before .before .if4 .taken, rw (c .before .number-at2 .ensures, c .number-at3 .ensures) (name-lies _ (c .before .before .before .before .before .before .before .before .before .before .before .args .insts .now) (c .before .before .before .before .before .before .before .before .before .before .before .args .core .ip) formed (rw (← (c .before .before .before .before .before .number-at .ensures)) (sym (c .before .before .before .before .looks-up .ensures) ∙ c .before .before .before .if3 .taken))), (sym (c .before .number-at2 .ensures), sym (c .number-at3 .ensures)), refl, refl, refl, refl, refl) }
-
-keep-jump-requires : tie.Need-keep-jump-requires
-keep-jump-requires c κs = omega (arith, c .before .before .before .before .before .number-at .ensures, typ-byte _ (instOf (c .before .before .before .before .before .before .before .before .before .before .before .args .insts .now) (c .before .before .before .before .before .before .before .before .before .before .before .args .core .ip)) (sym (c .before .before .before .before .before .before .before .is-well-formed-at .ensures) ∙ not-false _ (c .before .before .before .before .before .before .if2 .left)))
+    let formed = sym (c .before .before .before .before .before .before .before .before .is-well-formed-at .ensures) ∙ not-false _ (c .before .before .before .before .before .before .before .if2 .left) in
+    record { small = tt; sized = c .before .before .before .before .before .before .before .before .before .before .before .before .pre .1 .2; listed = c .before .before .before .before .before .before .before .before .before .before .before .before .pre .1 .3; tried = λ labels told. (sym (c .before .before .before .is-asked .ensures) ∙ not-true _ (c .before .before .if4 .taken), rw (c .before .number-at2 .ensures, c .number-at3 .ensures) (name-lies _ (c .before .before .before .before .before .before .before .before .before .before .before .before .args .insts .now) (c .before .before .before .before .before .before .before .before .before .before .before .before .args .core .ip) formed (rw (← (c .before .before .before .before .before .before .number-at .ensures)) (sym (c .before .before .before .before .before .looks-up .ensures) ∙ c .before .before .before .before .if3 .taken))), (sym (c .before .number-at2 .ensures), sym (c .number-at3 .ensures)), refl, refl, refl, refl, refl) }
 
 execute-jump-requires : tie.Need-execute-jump-requires
-execute-jump-requires c κs = ((c .before .before .before .before .before .before .before .before .before .before .before .before .before .pre .1 .0 .0, c .before .before .before .before .before .before .before .before .before .before .before .before .before .pre .1 .0 .1, search needs), omega (arith, c .before .before .before .before .if4 .left), sym (c .before .before .before .before .before .before .looks-up .ensures) ∙ c .before .before .before .before .before .if3 .taken)
+execute-jump-requires c κs = ((c .before .before .before .before .before .before .before .before .before .before .before .pre .1 .0 .0, c .before .before .before .before .before .before .before .before .before .before .before .pre .1 .0 .1, search needs), sym (c .before .before .before .before .looks-up .ensures) ∙ c .before .before .before .if3 .taken)
+
+keep-jump-requires : tie.Need-keep-jump-requires
+keep-jump-requires c κs = omega (arith, c .before .before .before .before .before .before .before .before .number-at .ensures, typ-byte _ (instOf (c .before .before .before .before .before .before .before .before .before .before .before .before .before .before .args .insts .now) (c .before .before .before .before .before .before .before .before .before .before .before .before .before .before .args .core .ip)) (sym (c .before .before .before .before .before .before .before .before .before .before .is-well-formed-at .ensures) ∙ not-false _ (c .before .before .before .before .before .before .before .before .before .if2 .left)))
 
 learn-requires : tie.Need-learn-requires
 learn-requires c κs = (c .before .before .before .before .before .before .before .before .before .pre .0, (c .before .before .before .before .before .before .before .before .before .pre .1 .1, c .before .before .before .before .before .before .before .before .before .pre .1 .2 .keys-long))
@@ -42,18 +42,18 @@ execute-instruction-requires c κs = ((c .before .before .before .before .before
 
 returns-4 : tie.Need-returns-4
 returns-4 c =
-    let formed = sym (c .before .before .before .before .before .before .before .before .before .before .is-well-formed-at .ensures) ∙ not-false _ (c .before .before .before .before .before .before .before .before .before .if2 .left) in
-    let xs = c .before .before .before .before .before .before .before .before .before .before .before .before .before .before .args .insts .now in
-    let ip = c .before .before .before .before .before .before .before .before .before .before .before .before .before .before .args .core .ip in
-    let kept = rw (c .before .before .before .before .before .before .before .before .number-at .ensures) at (c .before .before .keep-jump .ensures) in
-    let below = c .before .before .before .before .before .before .before .before .before .before .before .if1 .left in
+    let formed = sym (c .before .before .before .before .before .before .before .before .before .before .before .is-well-formed-at .ensures) ∙ not-false _ (c .before .before .before .before .before .before .before .before .before .before .if2 .left) in
+    let xs = c .before .before .before .before .before .before .before .before .before .before .before .before .before .before .before .args .insts .now in
+    let ip = c .before .before .before .before .before .before .before .before .before .before .before .before .before .before .before .args .core .ip in
+    let kept = rw (c .before .before .before .before .before .before .before .before .before .number-at .ensures) at (c .keep-jump .ensures) in
+    let below = c .before .before .before .before .before .before .before .before .before .before .before .before .if1 .left in
     record {
-      small = c .execute-jump .ensures 0 0 0 [] [] .small;
-      sized = keeps-jump-sized (c .before .before .before .before .before .before .before .before .before .before .before .before .before .before .pre .1 .2) kept;
-      listed = keeps-jump (c .before .before .before .before .before .before .before .before .before .before .before .before .before .before .pre .1 .2) kept (λ (key t i : ℕ). i * 32 + 31 < length xs) (c .before .before .before .before .before .before .before .before .before .before .before .before .before .before .pre .1 .3) (λ h. omega (arith, below, c .before .before .before .before .before .before .before .before .before .before .before .before .before .before .pre .1 .1));
-      tried = λ labels told. let finds = told (omega (arith, c .before .before .before .before .before .if4 .left)) in (
-        made-found _ xs labels (c .before .before .before .before .before .before .before .before .before .before .before .before .before .before .args .count) (c .before .before .before .before .before .before .before .before .before .before .before .before .before .before .pre .1 .1) _ _ _ _ _ (c .before .before .before .before .before .before .before .before .before .before .before .before .before .before .pre .1 .0) below formed _ _ _ _ _ finds (rw (c .before .before .before .before .before .before .before .before .number-at .ensures) at (c .execute-jump .ensures (numberAt xs (ip * 4 + 1)) (numberAt xs (ip * 4 + 2)) (numberAt xs (ip * 4 + 3)) (c .before .before .before .before .before .before .before .before .before .before .before .before .before .before .args .stack .now) (c .before .before .before .before .before .before .before .before .before .before .before .before .before .before .args .memory .now))),
-        λ k. keeps-jump (c .before .before .before .before .before .before .before .before .before .before .before .before .before .before .pre .1 .2) kept (KnownAt (lent (c .before .before .before .before .before .before .before .before .before .before .before .before .before .before .args .image .now) (instsOf xs) labels (c .before .before .before .before .before .before .before .before .before .before .before .before .before .before .args .count)) xs) k (λ h. known-at _ xs labels _ (c .before .before .before .before .before .before .before .before .before .before .before .before .before .before .pre .1 .1) ip below formed _ (λ l. sym finds ∙ found-target _ h)),
+      small = c .before .before .before .execute-jump .ensures 0 0 0 [] [] .small;
+      sized = keeps-jump-sized (c .before .before .before .before .before .before .before .before .before .before .before .before .before .before .before .pre .1 .2) _ kept;
+      listed = keeps-jump (c .before .before .before .before .before .before .before .before .before .before .before .before .before .before .before .pre .1 .2) _ kept (λ (key t i : ℕ). i * 32 + 31 < length xs) (c .before .before .before .before .before .before .before .before .before .before .before .before .before .before .before .pre .1 .3) (at-target (c .before .before .before .before .before .before .before .before .before .before .before .before .before .before .before .args .found) (λ (t : ℕ). ip * 32 + 31 < length xs) (λ t h. omega (arith, below, c .before .before .before .before .before .before .before .before .before .before .before .before .before .before .before .pre .1 .1)));
+      tried = λ labels told. let finds = told (sym (c .before .before .before .before .before .before .is-asked .ensures) ∙ not-false _ (c .before .before .before .before .before .if4 .left)) in (
+        made-found _ xs labels (c .before .before .before .before .before .before .before .before .before .before .before .before .before .before .before .args .count) (c .before .before .before .before .before .before .before .before .before .before .before .before .before .before .before .pre .1 .1) _ _ _ _ _ (c .before .before .before .before .before .before .before .before .before .before .before .before .before .before .before .pre .1 .0) below formed _ _ _ _ _ finds (rw (c .before .before .before .before .before .before .before .before .before .number-at .ensures) at (c .before .before .before .execute-jump .ensures (numberAt xs (ip * 4 + 1)) (numberAt xs (ip * 4 + 2)) (numberAt xs (ip * 4 + 3)) (c .before .before .before .before .before .before .before .before .before .before .before .before .before .before .before .args .stack .now) (c .before .before .before .before .before .before .before .before .before .before .before .before .before .before .before .args .memory .now))),
+        λ k. keeps-jump (c .before .before .before .before .before .before .before .before .before .before .before .before .before .before .before .pre .1 .2) _ kept (KnownAt (lent (c .before .before .before .before .before .before .before .before .before .before .before .before .before .before .before .args .image .now) (instsOf xs) labels (c .before .before .before .before .before .before .before .before .before .before .before .before .before .before .before .args .count)) xs) k (at-target (c .before .before .before .before .before .before .before .before .before .before .before .before .before .before .before .args .found) (λ (t : ℕ). KnownAt (lent (c .before .before .before .before .before .before .before .before .before .before .before .before .before .before .before .args .image .now) (instsOf xs) labels (c .before .before .before .before .before .before .before .before .before .before .before .before .before .before .before .args .count)) xs (numberAt xs (ip * 4)) t ip) (λ t h. known-at _ xs labels _ (c .before .before .before .before .before .before .before .before .before .before .before .before .before .before .before .pre .1 .1) ip below formed t (λ l. sym finds ∙ h))),
       );
     }
 
@@ -86,6 +86,7 @@ step-spec =
     (λ c. search needs)
     (λ c κs. search needs)
     (λ c κs. search needs)
+    (λ c κs. search needs)
     (λ c. search needs)
     (λ c. search needs)
     (λ c κs. search needs)
@@ -93,8 +94,8 @@ step-spec =
     (λ c. search needs)
     (λ c κs. search needs)
     returns-3
-    keep-jump-requires
     execute-jump-requires
+    keep-jump-requires
     learn-requires
     (λ c. search needs)
     (λ c. search needs)

@@ -1,8 +1,8 @@
--- `run::progress::follow_executed` meets its contract. Assumes nothing.
+-- `run::follows::follow_executed` meets its contract. Assumes nothing.
 use Rattle.run.proofs.Following.{for-answer, after-next, after-compared, after-dump, after-full, after-halt, after-trap, after-ill, lent-cell, no-slot, a-slot}
 use borrow.Author.Needs.{needs}
-use Rattle.run.proofs.progress.follow_executed.Statement.{statement}
-use Rattle.run.proofs.progress.follow_executed.Tie as tie
+use Rattle.run.proofs.follows.follow_executed.Statement.{statement}
+use Rattle.run.proofs.follows.follow_executed.Tie as tie
 
 returns : tie.Need-returns
 returns c = for-answer (c .before .before .answer .given .1) (rw (c .anew .ensures) (after-next _ _ _ _ _ (c .before .before .before .before .before .pre .0) (c .before .before .before .before .before .pre .1) _ (rw (c .before .before .answer .given .1) at (c .before .before .before .before .before .pre .2))))

@@ -1,9 +1,9 @@
--- `run::progress::follow` meets its contract. Assumes nothing.
+-- `run::follows::follow` meets its contract. Assumes nothing.
 use mathlib.Core.Path.{refl}
 use Rattle.run.proofs.Following.{for-tried}
 use borrow.Author.Needs.{needs}
-use Rattle.run.proofs.progress.follow.Statement.{statement}
-use Rattle.run.proofs.progress.follow.Tie as tie
+use Rattle.run.proofs.follows.follow.Statement.{statement}
+use Rattle.run.proofs.follows.follow.Tie as tie
 
 follow-executed-requires : tie.Need-follow-executed-requires
 follow-executed-requires c κs = (c .before .before .before .before .before .pre .0, c .before .before .before .before .before .pre .1, rw (c .before .before .tried .given .1) at (c .before .before .before .before .before .pre .2))

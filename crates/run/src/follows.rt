@@ -1,0 +1,87 @@
+// What follows one step of a run.
+ghost use mathlib.Core.Path.{_≡_};
+ghost use Prim.Native.Nat.{_*_, _≤_, _<_};
+ghost use lib.ListN.{length};
+ghost use lib.Seq.{sets};
+ghost use Rattle.word.specs.Words.{eightOf};
+ghost use Rattle.step_core.specs.Parts.{Small};
+ghost use Rattle.step.specs.Steps.{SmallTried};
+ghost use Rattle.run.specs.Turns.{Follows, FollowsTry};
+use crate::progress::HALTED;
+use crate::progress::NUMBER;
+use crate::progress::Progress;
+use crate::progress::asks;
+use crate::progress::ends;
+use step::Tried;
+use step_core::Core;
+use step_core::Executed;
+use tables::NUMBER as CELL;
+use tables::put_number;
+
+// After a step: on with the next, its flags and the cells dumped so far; or the run stops here.
+pub enum Turn {
+    Go(Core, u8, usize),
+    End(Progress),
+}
+
+// The same numbers, each by itself: copied as a whole out of one of several answers they go through memory, and the processor
+// waits for it (6 ns a dump).
+fn anew(core: Core) -> Core
+    ensures { λ r. ⌜ r ≡ core ⌝ }
+{
+    Core {
+        ip: core.ip,
+        height: core.height,
+        call_height: core.call_height,
+    }
+}
+
+// A cell into the unfilled rest of the buffer, at its front.
+fn dump_cell(room: &mut [u8], cell: u64)
+    requires { ⌜ 8 ≤ length (now room) ⌝ }
+    ensures { λ _. ⌜ now (room .exit) ≡ sets (now (room .entry)) 0 (eightOf cell) ⌝ }
+{
+    put_number(room, 0, cell);
+}
+
+// What an executed step comes to for a run that was at core with so many steps left and n cells dumped. 34 and 33 count
+// no step and change nothing, a trap counts and ends the run.
+fn follow_executed(
+    answer: Executed,
+    core: Core,
+    flags: u8,
+    left: u64,
+    n: usize,
+    dumps: &mut [u8],
+) -> Turn
+    requires { ⌜ (0 < left) × (n * 8 ≤ length (now dumps)) × Small answer ⌝ }
+    ensures { λ r. ⌜ Follows answer core flags left n (now (dumps .entry)) (now (dumps .exit)) r ⌝ }
+{
+    let after = left - 1;
+    match answer {
+        Executed::Next(next) => Turn::Go(anew(next), flags, n),
+        Executed::Compared(next, g) => Turn::Go(anew(next), g, n),
+        Executed::Dump(next, cell) => {
+            let at = n * CELL;
+            if dumps.len() - at < CELL {
+                Turn::End(ends(core, flags, left, n, NUMBER, 33))
+            } else {
+                dump_cell(&mut dumps[at..], cell);
+                Turn::Go(anew(next), flags, n + 1)
+            }
+        }
+        Executed::Halt(last) => Turn::End(ends(last, flags, after, n, HALTED, 0)),
+        Executed::Trap(last, t) => Turn::End(ends(last, flags, after, n, NUMBER, t)),
+        Executed::Ill => Turn::End(ends(core, flags, left, n, NUMBER, 34)),
+    }
+}
+
+pub fn follow(tried: Tried, core: Core, flags: u8, left: u64, n: usize, dumps: &mut [u8]) -> Turn
+    requires { ⌜ (0 < left) × (n * 8 ≤ length (now dumps)) × SmallTried tried ⌝ }
+    ensures { λ r. ⌜ FollowsTry tried core flags left n (now (dumps .entry)) (now (dumps .exit)) r ⌝ }
+{
+    match tried {
+        Tried::Done(answer) => follow_executed(answer, core, flags, left, n, dumps),
+        Tried::Asks(start, len) => Turn::End(asks(core, flags, left, n, start, len)),
+    }
+}
