@@ -9,8 +9,7 @@ MM_SOURCE ?= ../shared/docs/src/src
 RUSTC := rustc -O --edition 2021 -D warnings
 
 run:
-	@mkdir -p target
-	@rt check runimage > target/run.log 2>&1 || { cat target/run.log; exit 1; }
+	@bin/prove runimage
 	@bin/runimage < $(IMAGE)
 
 # the oracle and `rt ci` side by side; the count of `rt ci` is the last line
@@ -31,9 +30,9 @@ images:
 	target/oracle-images bin/runimage oracle/images.txt
 
 # the archives of the host's calls, and what links them
-ARCHIVES := target/staticlib/libmm_host.a target/staticlib/liblabel_host.a
+ARCHIVES := target/staticlib/libmm_host.a target/staticlib/liblabel_loader.a target/staticlib/liblabel_run.a
 CALLS := -L native=target/staticlib -l static=mm_host
-RECORDS := -L native=target/staticlib -l static=label_host
+RECORDS := -L native=target/staticlib -l static=label_loader -l static=label_run
 ORIGINAL := --extern mm=target/original/libmm.rlib
 
 staticlib: $(ARCHIVES)

@@ -15,10 +15,10 @@ struct Loaded {
 
 fn loaded(image: &[u8]) -> (Loaded, Box<Machine>) {
     let none = Label { start: 0, len: 0, target: 0, next: 0 };
-    let (mut insts, mut labels, mut machine) = (vec![0; INSTS_SIZE], vec![none; LABEL_MAX + 1], Box::new(Machine::empty()));
-    let answer = load(image, &mut insts, &mut labels, &mut machine);
-    assert_eq!(answer.0, 0, "it loads");
-    (Loaded { insts, labels, count: answer.1 }, machine)
+    let (mut insts, mut labels) = (vec![0; INSTS_SIZE], vec![none; LABEL_MAX + 1]);
+    let answer = load(image, &mut insts, &mut labels);
+    assert_eq!(answer.number, 0, "it loads");
+    (Loaded { insts, labels, count: answer.count }, Box::new(Machine::fresh(answer.ip)))
 }
 
 // ns a step in place, and the machine that it leaves

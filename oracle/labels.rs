@@ -68,32 +68,35 @@ impl Machines {
     }
 }
 
-// A machine with something in each number: a load has to replace it.
-fn used() -> Machines {
-    let in_place = Box::new(records::Machine { height: 3, flags: 5, ip: 11, halted: true, ..records::Machine::empty() });
-    Machines { core: lent::Machine(in_place.bytes()), in_place }
+// A machine with something in each number: the load over byte slices has to replace it.
+fn used() -> lent::Machine {
+    lent::Machine(records::Machine { height: 3, flags: 5, halted: true, ..records::Machine::fresh(11) }.bytes())
 }
 
 impl<'a> Both<'a> {
-    // Both loads: None where they refuse, or both and the fresh machine.
+    // Both loads: None where they refuse, or both and the fresh machine, which over records is the one of the pointer that is answered.
     fn load(image: &'a [u8], random: &mut Random) -> Result<Option<(Both<'a>, Machines)>, String> {
         let insts = INSTS_SIZE - usize::from(random.one_in(16)) + random.below(40) as usize;
         let many = 513 - usize::from(random.one_in(16));
         let mut core = Program { image, insts: vec![7; insts], labels: vec![9; RECORD_SIZE * many], count: 0 };
         let nine = 0x0909_0909_0909_0909;
         let mut records = Tables { insts: vec![7; insts], labels: vec![Label { start: nine, len: nine, target: nine, next: nine }; many] };
-        let (mut machines, before) = (used(), used());
-        let loaded = sys::load(image, &mut core.insts, &mut core.labels, &mut machines.core.0);
-        let answer = records::load(image, &mut records.insts, &mut records.labels, &mut machines.in_place);
-        let refused = loaded.number != 0;
-        if (answer.0, answer.1) != (loaded.number, loaded.count) || !machines.are_alike() || !same_tables(&core, &records) {
-            return Err(format!("the load: {loaded:?}, by records {} and {}", answer.0, answer.1));
+        let mut machine = used();
+        let loaded = sys::load(image, &mut core.insts, &mut core.labels, &mut machine.0);
+        let answer = records::load(image, &mut records.insts, &mut records.labels);
+        if (answer.number, answer.count) != (loaded.number, loaded.count) || !same_tables(&core, &records) {
+            return Err(format!("the load: {loaded:?}, by records {answer:?}"));
         }
-        if refused && machines.core != before.core {
-            return Err("a refused load wrote to the machine".to_string());
+        if loaded.number != 0 {
+            let nothing = machine == used() && answer.ip == 0;
+            return if nothing { Ok(None) } else { Err(format!("a refused load wrote to the machine, or {answer:?} has a pointer")) };
         }
         core.count = loaded.count;
-        Ok((!refused).then_some((Both { core, records }, machines)))
+        let machines = Machines { core: machine, in_place: Box::new(records::Machine::fresh(answer.ip)) };
+        if !machines.are_alike() {
+            return Err(format!("the load: {answer:?}, and its fresh machine is another"));
+        }
+        Ok(Some((Both { core, records }, machines)))
     }
 
     // A number that no load leaves there, in the label table of both or in the machine.

@@ -1,4 +1,4 @@
-// The calls over label records and a machine in place (liblabel_host.a): their declarations, the two structs, and safe functions.
+// The calls over label records and a machine in place (liblabel_loader.a, liblabel_run.a): their declarations, the two structs, and safe functions.
 // each program uses a part of it
 #![allow(dead_code)]
 
@@ -26,9 +26,14 @@ pub struct Machine {
     pub halted: bool,
 }
 
-/// What a load answers: its number and the count.
+/// What a load answers: its number, the fresh machine's pointer and the count.
 #[repr(C)]
-pub struct Loaded(pub u64, pub u64);
+#[derive(Debug)]
+pub struct Loaded {
+    pub number: u64,
+    pub ip: u64,
+    pub count: u64,
+}
 
 /// What a run answers: its ending, the steps and the cells dumped.
 #[repr(C)]
@@ -45,7 +50,6 @@ mod c {
             insts_len: usize,
             labels: *mut Label,
             labels_len: usize,
-            machine: *mut Machine,
         ) -> Loaded;
 
         pub fn mm_run_in_place(
@@ -64,9 +68,9 @@ mod c {
     }
 }
 
-pub fn load(image: &[u8], insts: &mut [u8], labels: &mut [Label], machine: &mut Machine) -> Loaded {
+pub fn load(image: &[u8], insts: &mut [u8], labels: &mut [Label]) -> Loaded {
     // SAFETY: every address is valid for its length, and what is written is lent exclusively.
-    unsafe { c::mm_load_labels(image.as_ptr(), image.len(), insts.as_mut_ptr(), insts.len(), labels.as_mut_ptr(), labels.len(), machine) }
+    unsafe { c::mm_load_labels(image.as_ptr(), image.len(), insts.as_mut_ptr(), insts.len(), labels.as_mut_ptr(), labels.len()) }
 }
 
 pub fn run(image: &[u8], insts: &[u8], labels: &[Label], count: u64, machine: &mut Machine, limit: u64, dumps: &mut [u8]) -> Ran {
@@ -96,8 +100,9 @@ impl Label {
 }
 
 impl Machine {
-    pub fn empty() -> Machine {
-        Machine { stack: [0; 1024], height: 0, calls: [0; 1024], call_height: 0, memory: [0; 1024], flags: 0, ip: 0, halted: false }
+    /// The fresh machine of the pointer that a load answers: zero but for it.
+    pub fn fresh(ip: u64) -> Machine {
+        Machine { stack: [0; 1024], height: 0, calls: [0; 1024], call_height: 0, memory: [0; 1024], flags: 0, ip, halted: false }
     }
 
     /// The bytes that the calls over byte slices have for the same machine.

@@ -28,8 +28,9 @@ mod c {
 const NAMES: [&str; 5] = ["mm_load", "mm_run", "mm_encode", "mm_load_labels", "mm_run_in_place"];
 const CALLS: [unsafe extern "C" fn(); 5] = [c::mm_load, c::mm_run, c::mm_encode, c::mm_load_labels, c::mm_run_in_place];
 const SLACK: usize = 64;
-// A machine in place, as docs/HOST.md lays it out, in numbers.
+// A machine in place, as records.rs has it: its size and its pointer's place, in numbers.
 const IN_PLACE: usize = 17_448 / 8;
+const POINTER: usize = 17_432 / 8;
 const STEPS: u64 = 400;
 
 // The most stack of each call so far.
@@ -67,11 +68,15 @@ impl Measured {
     // Load and run over label records, the machine in place.
     fn over_records(&mut self, image: &mut [u8]) {
         let (mut insts, mut out) = (vec![0u8; INSTS_SIZE], vec![0u8; ENCODED_MAX]);
-        let (mut labels, mut machine, mut ran) = (vec![[0u64; 4]; LABEL_MAX + 1], vec![0u64; IN_PLACE], [0u64; 3]);
+        let (mut labels, mut machine) = (vec![[0u64; 4]; LABEL_MAX + 1], vec![0u64; IN_PLACE]);
+        let (mut loaded, mut ran) = ([0u64; 3], [0u64; 3]);
         let [image, insts, out] = [image, &mut insts, &mut out].map(crossing);
-        let (labels, machine) = (crossing(&mut labels), machine.as_mut_ptr() as u64);
-        let [number, count] = self.call(3, &[&image, &insts, &labels, &[machine]]);
+        let labels = crossing(&mut labels);
+        self.call(3, &[&[loaded.as_mut_ptr() as u64], &image, &insts, &labels]);
+        let [number, pointer, count] = loaded;
         if number == 0 {
+            machine[POINTER] = pointer;
+            let machine = machine.as_mut_ptr() as u64;
             self.call(4, &[&[ran.as_mut_ptr() as u64], &image, &insts, &labels, &[count, machine, STEPS], &out]);
         }
     }

@@ -11,7 +11,7 @@ use lib.Dec.{T, leb, ltb, eqb, lit<}
 use Rattle.binary64.proofs.Unbounded.{lt-or-ge, carried}
 use Rattle.binary64.proofs.Bounded.{units-le}
 use Rattle.binary64.specs.Rounding.{apart, units, NearestEven}
-use Rattle.binary64.specs.Binary64.{infinity, isNaN, Value, notANumber, infinite, finite, value, signed}
+use Rattle.binary64.specs.Binary64.{infinity, isNaN, Value, notANumber, infinite, finite, value, withSign}
 
 -- ---- nothing is nearer than the value itself, and nothing else as near
 module _ (w top n den p : ℕ) (D : 0 < den) (H : p ≤ top) (E : n ≡ units w p * den) where
@@ -33,15 +33,15 @@ split-value : (b : ℕ) (s : Bool) (m : ℕ) → m < infinity → leb (2 ^ 63) b
 unfolding value
 split-value b s m h e f = rw (e, f, le-ltb infinity m (le-of-lt h), ne-eqb m infinity (λ q. lt-irrefl m (subst (λ (z : ℕ). m < z) (sym q) h)))
 
-pub signed-value : (s : Bool) (p : ℕ) → p < infinity → value (signed s p) ≡ finite s (units 52 p)
+pub signed-value : (s : Bool) (p : ℕ) → p < infinity → value (withSign s p) ≡ finite s (units 52 p)
 signed-value true p h = split-value (2 ^ 63 + p) true p h (le-leb (2 ^ 63) (2 ^ 63 + p) (omega arith)) (omega arith)
 signed-value false p h = split-value (0 + p) false p h (lt-leb (2 ^ 63) (0 + p) (omega arith)) (omega arith)
 
 -- d is the pattern of ±u
 pub data Encoded (d : ℕ) (s : Bool) (u : ℕ) : Type 0 where
-  encoded : (p : ℕ) → p < infinity → units 52 p ≡ u → d ≡ signed s p → Encoded d s u
+  encoded : (p : ℕ) → p < infinity → units 52 p ≡ u → d ≡ withSign s p → Encoded d s u
 
-split : (d : ℕ) (t : Bool) → d < 2 ^ 64 → leb (2 ^ 63) d ≡ t → d ≡ signed t (d % 2 ^ 63)
+split : (d : ℕ) (t : Bool) → d < 2 ^ 64 → leb (2 ^ 63) d ≡ t → d ≡ withSign t (d % 2 ^ 63)
 split d true h e = omega (arith, leb-true (2 ^ 63) d e)
 split d false h e = omega (arith, leb-false (2 ^ 63) d e)
 
@@ -61,7 +61,7 @@ module _ (d : ℕ) (s : Bool) (u : ℕ) (H : d < 2 ^ 64) where
   by-tests false false f g q =
       let i : t ≡ s = cc in
       let j : units 52 m ≡ u = cc in
-      encoded m (lt-of-le-ne (ltb-false infinity m f) (eqb-false m infinity g)) j (split d t H refl ∙ ap (λ (z : Bool). signed z m) i)
+      encoded m (lt-of-le-ne (ltb-false infinity m f) (eqb-false m infinity g)) j (split d t H refl ∙ ap (λ (z : Bool). withSign z m) i)
 
   pub value-encoded : value d ≡ finite s u → Encoded d s u
   unfolding value

@@ -12,7 +12,7 @@ use Rattle.binary64.proofs.Unique.{unique, over, reaches}
 use Rattle.binary64.proofs.Exact.{exact-nearest, signed-value, Encoded, encoded, value-encoded, Pattern, pattern, pattern-of, below-infinity}
 use Rattle.binary64.proofs.Special.{special}
 use Rattle.binary64.specs.Rounding.{count, units, NearestEven, roundPattern}
-use Rattle.binary64.specs.Binary64.{infinity, finite, value, signed, Exact, exactly, exactSum, exactProduct, exactQuotient, rounded, sum, opposite, product, quotient, sumBits, differenceBits, productBits, quotientBits, ofWhole}
+use Rattle.binary64.specs.Binary64.{infinity, finite, value, withSign, Exact, exactly, exactSum, exactProduct, exactQuotient, rounded, sum, opposite, product, quotient, sumBits, differenceBits, productBits, quotientBits, ofWhole}
 use Rattle.binary64.specs.Theorems.{Theorems, IsRounded, RoundsToNearestEven, OnlyOneIsNearestEven, OverflowsFrom, ExactResultIsGiven, SumIsRounded, ZeroSumIsSigned, DifferenceIsRounded, ZeroDifferenceIsSigned, ProductIsRounded, QuotientIsRounded, WholeIsRounded, WholeIsExact}
 
 nearest : RoundsToNearestEven
@@ -56,7 +56,7 @@ exact e d u r D B v N R = go (value-encoded d (e .sign) u B v)
     go : Encoded d (e .sign) u → r ≡ d
     go (encoded p h f g) =
         let q : R .magnitude ≡ p = only-exact (e .numerator) (e .denominator) p (R .magnitude) D h (N ∙ ap (λ (z : ℕ). z * e .denominator) (sym f)) (R .nearest) in
-        R .with-sign ∙ ap (signed (e .sign)) q ∙ sym g
+        R .with-sign ∙ ap (withSign (e .sign)) q ∙ sym g
 
 -- ---- the operations
 is-rounded : (e : Exact) → 0 < e .denominator → IsRounded e (rounded e)
@@ -85,7 +85,7 @@ unlike-zero s t u v true h e = absurd (omega (arith, ltb-true u v h))
 unlike-zero s t u v false h e = let l : u ≤ v = omega arith in simp (le-ltb v u l, and-false, e, zero-pattern)
 
 -- the sign of an exact sum of 0, by the operands' signs
-zero-signed : (s : Bool) (u : ℕ) (t : Bool) (v : ℕ) → exactSum s u t v .numerator ≡ 0 → rounded (exactSum s u t v) ≡ signed (s && t) 0
+zero-signed : (s : Bool) (u : ℕ) (t : Bool) (v : ℕ) → exactSum s u t v .numerator ≡ 0 → rounded (exactSum s u t v) ≡ withSign (s && t) 0
 zero-signed true u true v e = simp (e, zero-pattern)
 zero-signed false u false v e = simp (e, zero-pattern)
 zero-signed true u false v e = unlike-zero true false u v (ltb u v) refl e
@@ -124,7 +124,7 @@ whole-exact n h = go (pattern-of 52 1074 n h)
     go (pattern p e) =
         let l : p < infinity = below-infinity n p h e in
         let q = only-exact (n * 2 ^ 1074) 1 p _ (le-refl 1) l (sym (mul-one (units 52 p) ∙ e)) (nearest (n * 2 ^ 1074) 1 (le-refl 1)) in
-        ap (λ (z : ℕ). value (signed false z)) q ∙ signed-value false p l ∙ ap (finite false) e
+        ap (λ (z : ℕ). value (withSign false z)) q ∙ signed-value false p l ∙ ap (finite false) e
 
 pub theorems : Theorems
 theorems = record {

@@ -5,7 +5,7 @@ use native.Mathlib.Omega.{arith}
 use mathlib.Core.Bool.{Bool, true, false, not}
 use borrow.Author.Tests.{ne-eqb}
 use lib.Dec.{eqb}
-use Rattle.binary64.specs.Binary64.{infinity, quiet, Value, notANumber, infinite, finite, value, signed, unlike, sum, opposite, product, quotient, sumBits, differenceBits, productBits, quotientBits}
+use Rattle.binary64.specs.Binary64.{infinity, quiet, Value, notANumber, infinite, finite, value, withSign, unlike, sum, opposite, product, quotient, sumBits, differenceBits, productBits, quotientBits}
 use Rattle.binary64.specs.SpecialCases.{SpecialCases}
 use Rattle.binary64.specs.Theorems.{SpecialCasesHold}
 
@@ -27,7 +27,7 @@ quotient-nan notANumber = refl
 quotient-nan (infinite s) = refl
 quotient-nan (finite s u) = refl
 
-like : (s : Bool) → sum (infinite s) (infinite s) ≡ signed s infinity
+like : (s : Bool) → sum (infinite s) (infinite s) ≡ withSign s infinity
 unfolding sum
 like true = refl
 like false = refl
@@ -37,7 +37,7 @@ unfolding sum
 unlike-signs true = refl
 unlike-signs false = refl
 
-like-opposite : (s : Bool) → sum (infinite s) (opposite (infinite (not s))) ≡ signed s infinity
+like-opposite : (s : Bool) → sum (infinite s) (opposite (infinite (not s))) ≡ withSign s infinity
 unfolding sum opposite
 like-opposite true = refl
 like-opposite false = refl

@@ -29,8 +29,8 @@ value b =
     cond (isNaN b) notANumber (cond (eqb m infinity) (infinite s) (finite s (units 52 m)))
 
 -- the pattern with the sign s and the magnitude's pattern m
-abbrev pub signed : Bool → ℕ → ℕ
-signed s m = cond s (2 ^ 63) 0 + m
+abbrev pub withSign : Bool → ℕ → ℕ
+withSign s m = cond s (2 ^ 63) 0 + m
 
 -- ---- exact results: numerator / denominator * 2 ^ -1074, negative where sign is true. A zero has a sign too
 pub record Exact : Type 0 where
@@ -60,16 +60,16 @@ exactQuotient s u t v = exactly (unlike s t) (u * 2 ^ 1074) v
 
 -- rounded to nearest, ties to even: `IsRounded` of Theorems holds of it
 abbrev pub rounded : Exact → ℕ
-rounded e = signed (e .sign) (roundPattern 52 infinity (e .numerator) (e .denominator))
+rounded e = withSign (e .sign) (roundPattern 52 infinity (e .numerator) (e .denominator))
 
 -- ---- the operations, on values and on patterns
 unfoldable pub sum : Value → Value → ℕ
 sum notANumber y = quiet
 sum (infinite s) notANumber = quiet
-sum (infinite s) (infinite t) = cond (Bool·beq s t) (signed s infinity) quiet
-sum (infinite s) (finite t v) = signed s infinity
+sum (infinite s) (infinite t) = cond (Bool·beq s t) (withSign s infinity) quiet
+sum (infinite s) (finite t v) = withSign s infinity
 sum (finite s u) notANumber = quiet
-sum (finite s u) (infinite t) = signed t infinity
+sum (finite s u) (infinite t) = withSign t infinity
 sum (finite s u) (finite t v) = rounded (exactSum s u t v)
 
 unfoldable pub opposite : Value → Value
@@ -80,20 +80,20 @@ opposite (finite s u) = finite (not s) u
 unfoldable pub product : Value → Value → ℕ
 product notANumber y = quiet
 product (infinite s) notANumber = quiet
-product (infinite s) (infinite t) = signed (unlike s t) infinity
-product (infinite s) (finite t v) = cond (eqb v 0) quiet (signed (unlike s t) infinity)
+product (infinite s) (infinite t) = withSign (unlike s t) infinity
+product (infinite s) (finite t v) = cond (eqb v 0) quiet (withSign (unlike s t) infinity)
 product (finite s u) notANumber = quiet
-product (finite s u) (infinite t) = cond (eqb u 0) quiet (signed (unlike s t) infinity)
+product (finite s u) (infinite t) = cond (eqb u 0) quiet (withSign (unlike s t) infinity)
 product (finite s u) (finite t v) = rounded (exactProduct s u t v)
 
 unfoldable pub quotient : Value → Value → ℕ
 quotient notANumber y = quiet
 quotient (infinite s) notANumber = quiet
 quotient (infinite s) (infinite t) = quiet
-quotient (infinite s) (finite t v) = signed (unlike s t) infinity
+quotient (infinite s) (finite t v) = withSign (unlike s t) infinity
 quotient (finite s u) notANumber = quiet
-quotient (finite s u) (infinite t) = signed (unlike s t) 0
-quotient (finite s u) (finite t v) = cond (eqb v 0) (cond (eqb u 0) quiet (signed (unlike s t) infinity)) (rounded (exactQuotient s u t v))
+quotient (finite s u) (infinite t) = withSign (unlike s t) 0
+quotient (finite s u) (finite t v) = cond (eqb v 0) (cond (eqb u 0) quiet (withSign (unlike s t) infinity)) (rounded (exactQuotient s u t v))
 
 unfoldable pub sumBits : ℕ → ℕ → ℕ
 sumBits a b = sum (value a) (value b)

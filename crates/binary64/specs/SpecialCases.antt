@@ -2,7 +2,7 @@
 use Prim.Native.Nat.{ℕ, suc}
 use mathlib.Core.Path.{_≡_}
 use mathlib.Core.Bool.{Bool, not}
-use Rattle.binary64.specs.Binary64.{infinity, quiet, Value, notANumber, infinite, finite, value, signed, unlike, sumBits, differenceBits, productBits, quotientBits}
+use Rattle.binary64.specs.Binary64.{infinity, quiet, Value, notANumber, infinite, finite, value, withSign, unlike, sumBits, differenceBits, productBits, quotientBits}
 
 -- the operation gives the pattern r for all patterns that stand for x (left) and y (right)
 abbrev pub _of_and_gives_ : (ℕ → ℕ → ℕ) → Value → Value → ℕ → Type 0
@@ -25,17 +25,17 @@ pub record SpecialCases (s t : Bool) (u v : ℕ) (x y : Value) : Type 0 where
   pub zero-by-zero : quotientBits of finite s 0 and finite t 0 gives quiet
   pub infinity-by-infinity : quotientBits of infinite s and infinite t gives quiet
   -- 7.3, division by zero: an infinity, negative where one operand is and the other is not
-  pub nonzero-by-zero : quotientBits of finite s (suc u) and finite t 0 gives signed (unlike s t) infinity
+  pub nonzero-by-zero : quotientBits of finite s (suc u) and finite t 0 gives withSign (unlike s t) infinity
   -- 6.1, infinity arithmetic: sums and differences
-  pub sum-of-like-infinities : sumBits of infinite s and infinite s gives signed s infinity
-  pub infinity-plus-finite : sumBits of infinite s and finite t v gives signed s infinity
-  pub finite-plus-infinity : sumBits of finite s u and infinite t gives signed t infinity
-  pub difference-of-unlike-infinities : differenceBits of infinite s and infinite (not s) gives signed s infinity
-  pub infinity-minus-finite : differenceBits of infinite s and finite t v gives signed s infinity
-  pub finite-minus-infinity : differenceBits of finite s u and infinite t gives signed (not t) infinity
+  pub sum-of-like-infinities : sumBits of infinite s and infinite s gives withSign s infinity
+  pub infinity-plus-finite : sumBits of infinite s and finite t v gives withSign s infinity
+  pub finite-plus-infinity : sumBits of finite s u and infinite t gives withSign t infinity
+  pub difference-of-unlike-infinities : differenceBits of infinite s and infinite (not s) gives withSign s infinity
+  pub infinity-minus-finite : differenceBits of infinite s and finite t v gives withSign s infinity
+  pub finite-minus-infinity : differenceBits of finite s u and infinite t gives withSign (not t) infinity
   -- and products and quotients, by 6.3 negative where one operand is and the other is not
-  pub infinity-times-infinity : productBits of infinite s and infinite t gives signed (unlike s t) infinity
-  pub infinity-times-nonzero : productBits of infinite s and finite t (suc v) gives signed (unlike s t) infinity
-  pub nonzero-times-infinity : productBits of finite s (suc u) and infinite t gives signed (unlike s t) infinity
-  pub infinity-by-finite : quotientBits of infinite s and finite t v gives signed (unlike s t) infinity
-  pub finite-by-infinity : quotientBits of finite s u and infinite t gives signed (unlike s t) 0
+  pub infinity-times-infinity : productBits of infinite s and infinite t gives withSign (unlike s t) infinity
+  pub infinity-times-nonzero : productBits of infinite s and finite t (suc v) gives withSign (unlike s t) infinity
+  pub nonzero-times-infinity : productBits of finite s (suc u) and infinite t gives withSign (unlike s t) infinity
+  pub infinity-by-finite : quotientBits of infinite s and finite t v gives withSign (unlike s t) infinity
+  pub finite-by-infinity : quotientBits of finite s u and infinite t gives withSign (unlike s t) 0

@@ -3,7 +3,7 @@ use Prim.Native.Nat.{ℕ, _*_, _-_, _^_, _≤_, _<_}
 use mathlib.Core.Path.{_≡_}
 use mathlib.Core.Bool.{Bool, false, not, _&&_}
 use Rattle.binary64.specs.Rounding.{NearestEven, roundPattern}
-use Rattle.binary64.specs.Binary64.{infinity, Value, finite, value, signed, Exact, exactly, exactSum, exactDifference, exactProduct, exactQuotient, sumBits, differenceBits, productBits, quotientBits, ofWhole}
+use Rattle.binary64.specs.Binary64.{infinity, Value, finite, value, withSign, Exact, exactly, exactSum, exactDifference, exactProduct, exactQuotient, sumBits, differenceBits, productBits, quotientBits, ofWhole}
 use Rattle.binary64.specs.SpecialCases.{SpecialCases}
 
 -- a fraction of units is rounded to a nearest pattern, and at a tie to an even one
@@ -24,7 +24,7 @@ OverflowsFrom =
 -- the pattern r is the exact result e, rounded to nearest, ties to even
 pub record IsRounded (e : Exact) (r : ℕ) : Type 0 where
   pub magnitude : ℕ
-  pub with-sign : r ≡ signed (e .sign) magnitude
+  pub with-sign : r ≡ withSign (e .sign) magnitude
   pub nearest : NearestEven 52 infinity (e .numerator) (e .denominator) magnitude
 
 -- where the exact result is what a double d stands for, it is rounded to d
@@ -42,14 +42,14 @@ SumIsRounded = OfFinite (λ a b s u t v. IsRounded (exactSum s u t v) (sumBits a
 
 -- an exact sum of 0 is -0 where both operands are negative, and +0 otherwise
 abbrev pub ZeroSumIsSigned : Type 0
-ZeroSumIsSigned = OfFinite (λ a b s u t v. exactSum s u t v .numerator ≡ 0 → sumBits a b ≡ signed (s && t) 0)
+ZeroSumIsSigned = OfFinite (λ a b s u t v. exactSum s u t v .numerator ≡ 0 → sumBits a b ≡ withSign (s && t) 0)
 
 abbrev pub DifferenceIsRounded : Type 0
 DifferenceIsRounded = OfFinite (λ a b s u t v. IsRounded (exactDifference s u t v) (differenceBits a b))
 
 -- an exact difference of 0 is -0 where only the left operand is negative, which is -0 - +0, and +0 otherwise
 abbrev pub ZeroDifferenceIsSigned : Type 0
-ZeroDifferenceIsSigned = OfFinite (λ a b s u t v. exactDifference s u t v .numerator ≡ 0 → differenceBits a b ≡ signed (s && not t) 0)
+ZeroDifferenceIsSigned = OfFinite (λ a b s u t v. exactDifference s u t v .numerator ≡ 0 → differenceBits a b ≡ withSign (s && not t) 0)
 
 abbrev pub ProductIsRounded : Type 0
 ProductIsRounded = OfFinite (λ a b s u t v. IsRounded (exactProduct s u t v) (productBits a b))

@@ -6,10 +6,10 @@ use mathlib.Core.List.{List, [], _∷_}
 use Rattle.flag.specs.Flags.{isSet}
 use Rattle.inst.specs.declared.Inst.{Inst}
 use Rattle.inst.specs.Forms.{formOf, hasNone, hasEight, hasOne, hasName}
-use Rattle.inst.specs.Records.{nameOk, nameIn, fits, wellFormed}
+use Rattle.inst.specs.Records.{nameOk, nameIn, fits, wellFormed, same}
 use Rattle.machine.specs.declared.Machine.{Machine}
 use Rattle.machine.specs.declared.Label.{Label}
-use Rattle.machine.specs.Load.{same, head}
+use Rattle.machine.specs.Load.{head}
 use Rattle.machine.specs.Lookup.{walk, lookupFrom, lookup}
 use Rattle.machine.specs.Change.{withCalls, moved}
 use Rattle.machine.specs.Step.{Stepped, succeeds, outputs, trap, ill, _must_else_then_, opOf, jumpIf, jump, callTo, call, dump, exec, wellState, step}

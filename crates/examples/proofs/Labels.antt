@@ -52,7 +52,7 @@ module _ (n k : ℕ) (h : k < n) where
   field =
       let from = k * 9 + 1 in
       let z : from + 8 - from ≡ 8 = omega arith in
-      ap littleEndian (sym (laws.lent from (from + 8) (definitions n)) ∙ ap (λ (i : ℕ). take i (drop from (definitions n))) z)
+      ap littleEndian (sym (laws.slice-of from (from + 8) (definitions n)) ∙ ap (λ (i : ℕ). take i (drop from (definitions n))) z)
       ∙ ap (λ (l : List ℕ). littleEndian (take 8 l)) (sym (drop-drop 1 (k * 9) (definitions n)) ∙ ap (drop 1) behind)
 
   read : fromBytes (definitions n) (k * 9) ≡ reads (named 21 (k * 9 + 9) 0) 9

@@ -10,21 +10,21 @@ use lib.ListN.{length, replicate}
 use borrow.Author.Tests.{ltb-true}
 use Rattle.inst.specs.declared.Inst.{Inst}
 use Rattle.inst.specs.Forms.{formOf, hasNone, hasEight, hasOne, hasName}
-use Rattle.inst.specs.Records.{Bytes, nameOk, nameIn, fits, wellFormed}
+use Rattle.inst.specs.Records.{Bytes, nameOk, nameIn, fits, wellFormed, same}
 use Rattle.word.specs.Words.{littleEndian}
 use Rattle.inst_decode.specs.Decode as decode
 use Rattle.inst_encode.specs.Encode.{bytesOf}
 use Rattle.machine.specs.declared.Label.{Label}
 use Rattle.machine.specs.declared.Ending.{Ending}
 use Rattle.machine.specs.declared.Ending.the-variants.{Halted, Limit, Number}
-use Rattle.machine.specs.Load.{same, startName, linked, scanOne, andThen, scan, lastOf, anyNative, lastIsHalt, closed, Loaded, Load, rejects, accepts, checked, entered, finished, loads, load, instsAfter, labelsAfter, fresh, countOf}
+use Rattle.machine.specs.Load.{startName, linked, scanOne, andThen, scan, lastOf, anyNative, lastIsHalt, closed, Loaded, Load, rejects, accepts, checked, entered, finished, loads, load, instsAfter, labelsAfter, fresh, countOf}
 use Rattle.machine.specs.Lookup.{walk, lookupFrom, lookup}
 use Rattle.machine.specs.Change.{withStack, withCalls, moved, stopped}
 use Rattle.machine.specs.Step.{_must_else_then_, opOf, push, pop, callTo, call, ret, dump, exec, wellState, step}
 use Rattle.machine.specs.Run.{isIll, isDump, before, taken, turn, course, Result, reported, run}
 use Rattle.machine.specs.Effects.{effects, lostAt, effect, dropLast, openCalls}
 use Rattle.machine.specs.History.{State, initial, History, none, end, endWith, advance, stepped, programOf, further, history}
-use Rattle.machine.specs.Statements.{Request, runs, totalSteps, allDumped, lastMachine, Counted, Below, lent}
+use Rattle.machine.specs.Statements.{Request, runs, totalSteps, allDumped, lastMachine, Counted, Below, loadedProgram}
 use Rattle.inst.proofs.Laws.{and-left, and-right}
 use Rattle.machine.proofs.Runs.{runs-from, runs-are-one-history}
 
@@ -80,7 +80,7 @@ requests =
     ∷ []
 
 results : List Result
-results = runs (lent image insts labels loaded) (fresh loaded) requests
+results = runs (loadedProgram image insts labels loaded) (fresh loaded) requests
 
 -- ending, steps, cells dumped, buffer
 record Line : Type 0 where
@@ -140,7 +140,7 @@ record Computed : Type 0 where
   long : number (loads (replicate 16385 0)) ≡ 1
 
 computed : Computed
-unfolding image named loaded ofLoad insts labels bytesOf load loads same linked scanOne andThen scan lastOf anyNative lastIsHalt closed checked entered finished decode.fromBytes decode.readName decode.readOperand littleEndian decode.typeOf decode.isNegative formOf hasNone hasEight hasOne hasName nameOk nameIn fits wellFormed requests results line report runs run reported course turn taken before isIll isDump step wellState exec push pop callTo call ret dump _must_else_then_ opOf walk lookupFrom lookup withStack withCalls moved fresh lent instsAfter labelsAfter totalSteps allDumped told number started lost historyOf history initial further stepped endWith advance effects lostAt effect dropLast openCalls stopped
+unfolding image named loaded ofLoad insts labels bytesOf load loads same linked scanOne andThen scan lastOf anyNative lastIsHalt closed checked entered finished decode.fromBytes decode.readName decode.readOperand littleEndian decode.typeOf decode.isNegative formOf hasNone hasEight hasOne hasName nameOk nameIn fits wellFormed requests results line report runs run reported course turn taken before isIll isDump step wellState exec push pop callTo call ret dump _must_else_then_ opOf walk lookupFrom lookup withStack withCalls moved fresh loadedProgram instsAfter labelsAfter totalSteps allDumped told number started lost historyOf history initial further stepped endWith advance effects lostAt effect dropLast openCalls stopped
 computed =
     record {
       accepted = refl;

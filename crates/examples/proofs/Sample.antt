@@ -7,18 +7,18 @@ use Rattle.nan.specs.Cells as nan
 use Rattle.integer.specs.Integers.{iadd, imul}
 use Rattle.inst.specs.declared.Inst.{Inst}
 use Rattle.inst.specs.Forms.{formOf, hasNone, hasEight, hasOne, hasName}
-use Rattle.inst.specs.Records.{nameOk, nameIn, fits, wellFormed}
+use Rattle.inst.specs.Records.{nameOk, nameIn, fits, wellFormed, same}
 use Rattle.word.specs.Words.{littleEndian}
 use Rattle.inst_decode.specs.Decode as decode
 use Rattle.machine.specs.declared.Label.{Label}
 use Rattle.machine.specs.declared.Ending.{Ending}
 use Rattle.machine.specs.declared.Ending.the-variants.{Halted}
-use Rattle.machine.specs.Load.{same, startName, linked, scanOne, andThen, scan, lastOf, anyNative, lastIsHalt, closed, Loaded, Load, rejects, accepts, checked, entered, finished, loads, load, instsAfter, labelsAfter, fresh, countOf}
+use Rattle.machine.specs.Load.{startName, linked, scanOne, andThen, scan, lastOf, anyNative, lastIsHalt, closed, Loaded, Load, rejects, accepts, checked, entered, finished, loads, load, instsAfter, labelsAfter, fresh, countOf}
 use Rattle.machine.specs.Lookup.{walk, lookupFrom, lookup}
 use Rattle.machine.specs.Change.{callHeight, withStack, moved, stopped}
 use Rattle.machine.specs.Step.{_must_else_then_, opOf, numberOf, push, ofCells, divides, integerStep, dump, exec, wellState, step}
 use Rattle.machine.specs.Run.{isIll, isDump, before, taken, turn, course, Result, reported, run}
-use Rattle.machine.specs.Statements.{lent}
+use Rattle.machine.specs.Statements.{loadedProgram}
 
 -- LABEL _start, PUSH 2, PUSH 3, IMUL, 27 1
 image : List ℕ
@@ -56,10 +56,10 @@ line r =
 
 ran : Load → Line
 ran (rejects n) = record { ending = Halted; steps = 99; ip = 0; height = 0; calls = 0; dumped = 0; cell = [] }
-ran (accepts l) = line (run (lent image insts labels l) 10000 (0 ∷ []) (fresh l))
+ran (accepts l) = line (run (loadedProgram image insts labels l) 10000 (0 ∷ []) (fresh l))
 
 -- end halt steps 6 ip 5 height 1 calls 0, and one cell
 sample : ran (load image insts labels)
     ≡ record { ending = Halted; steps = 6; ip = 5; height = 1; calls = 0; dumped = 1; cell = 0x7FF2000000000006 ∷ [] }
-unfolding image insts labels line ran load loads same linked scanOne andThen scan lastOf anyNative lastIsHalt closed checked entered finished decode.fromBytes decode.readName decode.readOperand littleEndian decode.typeOf decode.isNegative formOf hasNone hasEight hasOne hasName nameOk nameIn fits wellFormed run reported course turn taken before isIll isDump step wellState exec push ofCells divides integerStep numberOf dump _must_else_then_ opOf walk lookupFrom lookup withStack moved stopped fresh lent instsAfter labelsAfter nan.typeOf nan.tagged nan.value nan.modulo64 nan.signed nan.boxed imul
+unfolding image insts labels line ran load loads same linked scanOne andThen scan lastOf anyNative lastIsHalt closed checked entered finished decode.fromBytes decode.readName decode.readOperand littleEndian decode.typeOf decode.isNegative formOf hasNone hasEight hasOne hasName nameOk nameIn fits wellFormed run reported course turn taken before isIll isDump step wellState exec push ofCells divides integerStep numberOf dump _must_else_then_ opOf walk lookupFrom lookup withStack moved stopped fresh loadedProgram instsAfter labelsAfter nan.typeOf nan.tagged nan.value nan.modulo64 nan.signed nan.boxed imul
 sample = refl

@@ -39,7 +39,7 @@ pub fn cmp(a: u64, b: u64) -> u8
 
 // Whether the flag that the jump with the first byte `op` tests is set. Only our own steps call it, for the
 // conditional jumps, 12 to 19.
-pub fn is_set(flags: u8, op: u8) -> bool
+pub fn is_set(flags: u8, op: u64) -> bool
     requires { ⌜ 12 ≤ op ⌝ ∗ ⌜ op ≤ 19 ⌝ }
     ensures { λ r. ⌜ r ≡ spec.isSet flags op ⌝ }
 {

@@ -17,7 +17,7 @@ use Rattle.binary64.proofs.Library.{pattern-is}
 use Rattle.binary64.proofs.Unbounded.{lt-or-ge, carried, dropped, unit, kept-le, kept-ge}
 use Rattle.binary64.proofs.Bounded.{units-le, units-lt, min-left, min-right}
 use Rattle.binary64.specs.Rounding.{units, roundPattern}
-use Rattle.binary64.specs.Binary64.{infinity, signed, exactly, rounded}
+use Rattle.binary64.specs.Binary64.{infinity, withSign, exactly, rounded}
 
 -- ---- v's digits as `toBits` writes them, for v = q * 2 ^ k
 size-gt : (n j : ℕ) → 2 ^ j ≤ n → j < size n
@@ -59,7 +59,7 @@ packed w q k C L = elim (eq-or-lt-of-le C) [ inl e ↦ at-top e | inr h ↦ unde
 abbrev bitsOf : ℕ → ℕ
 bitsOf v = (size v - 53) * 2 ^ 52 + v / 2 ^ (size v - 53)
 
-value-bits : (x : Float) (s : Bool) (v : ℕ) → HasValue x s v (2 ^ 1074) → toBits binary64 x ≡ signed s (bitsOf v)
+value-bits : (x : Float) (s : Bool) (v : ℕ) → HasValue x s v (2 ^ 1074) → toBits binary64 x ≡ withSign s (bitsOf v)
 unfolding toBits
 value-bits nan s v h = absurd h
 value-bits (inf t) s v h = absurd h
@@ -68,7 +68,7 @@ value-bits (fin t m e) s v h =
     ∙ ap (λ (z : Bool). cond z (2 ^ 63) 0 + (size v - 53) * 2 ^ 52 + v / 2 ^ (size v - 53)) (h .0)
     ∙ add-assoc (cond s (2 ^ 63) 0) ((size v - 53) * 2 ^ 52) (v / 2 ^ (size v - 53))
 
-pub infinite-bits : (s : Bool) → toBits binary64 (inf s) ≡ signed s infinity
+pub infinite-bits : (s : Bool) → toBits binary64 (inf s) ≡ withSign s infinity
 unfolding toBits
 infinite-bits true = refl
 infinite-bits false = refl
@@ -76,7 +76,7 @@ infinite-bits false = refl
 infinite-units : units 52 infinity ≡ 2 ^ 2098
 infinite-units = refl
 
-units-bits : (s : Bool) (q k : ℕ) → q ≤ 2 ^ 53 → (0 < k → 2 ^ 52 ≤ q) → toBits binary64 (Ieee.units binary64 s q k) ≡ signed s (min infinity (k * 2 ^ 52 + q))
+units-bits : (s : Bool) (q k : ℕ) → q ≤ 2 ^ 53 → (0 < k → 2 ^ 52 ≤ q) → toBits binary64 (Ieee.units binary64 s q k) ≡ withSign s (min infinity (k * 2 ^ 52 + q))
 unfolding Ieee.units
 units-bits s q k C L = go (ltb (q * 2 ^ k) (2 ^ 2098)) (ltb→lt (q * 2 ^ k) (2 ^ 2098)) (nltb→le (q * 2 ^ k) (2 ^ 2098))
   where
@@ -89,18 +89,18 @@ units-bits s q k C L = go (ltb (q * 2 ^ k) (2 ^ 2098)) (ltb→lt (q * 2 ^ k) (2 
     many : 2 ^ 2098 ≤ q * 2 ^ k → infinity ≤ (k * 2 ^ 52 + q)
     many h = elim (lt-or-ge (k * 2 ^ 52 + q) infinity) [ inl l ↦ absurd (not-le-of-lt (lt-of-lt-of-le (units-lt 52 (k * 2 ^ 52 + q) infinity l) (le-of-eq infinite-units)) (le-trans h (le-of-eq (sym pu)))) | inr g ↦ g ]
 
-    go : (b : Bool) → (T b → q * 2 ^ k < 2 ^ 2098) → (T (not b) → 2 ^ 2098 ≤ q * 2 ^ k) → toBits binary64 (cond b (odd 54 s q k 1074) (inf s)) ≡ signed s (min infinity (k * 2 ^ 52 + q))
+    go : (b : Bool) → (T b → q * 2 ^ k < 2 ^ 2098) → (T (not b) → 2 ^ 2098 ≤ q * 2 ^ k) → toBits binary64 (cond b (odd 54 s q k 1074) (inf s)) ≡ withSign s (min infinity (k * 2 ^ 52 + q))
     go true h g =
         value-bits (odd 54 s q k 1074) s (q * 2 ^ k) (odd-sign 54 s q k 1074)
-        ∙ ap (signed s) (packed 52 q k C L ∙ sym (min-right infinity (k * 2 ^ 52 + q) (few (h tt))))
-    go false h g = infinite-bits s ∙ ap (signed s) (sym (min-left infinity (k * 2 ^ 52 + q) (many (g tt))))
+        ∙ ap (withSign s) (packed 52 q k C L ∙ sym (min-right infinity (k * 2 ^ 52 + q) (few (h tt))))
+    go false h g = infinite-bits s ∙ ap (withSign s) (sym (min-left infinity (k * 2 ^ 52 + q) (many (g tt))))
 
 pub round-bits : (s : Bool) (num den : ℕ) → 0 < den → toBits binary64 (round binary64 s num den) ≡ rounded (exactly s (num * 2 ^ 1074) den)
 round-bits s num den D =
     let n = num * 2 ^ 1074 in
     ap (toBits binary64) (round-is binary64 s num den)
     ∙ units-bits s (closest n (unit 52 n den D)) (dropped 52 n den D) (kept-le 52 n den D) (kept-ge 52 n den D)
-    ∙ ap (signed s) (sym (pattern-is 52 infinity n den))
+    ∙ ap (withSign s) (sym (pattern-is 52 infinity n den))
 
 -- ---- equal fractions round alike
 pub pattern-same : (w top a b c d : ℕ) → 0 < b → 0 < d → a * d ≡ c * b → roundPattern w top a b ≡ roundPattern w top c d

@@ -12,7 +12,7 @@ use lib.Ieee.{Float, nan, inf, fin, binary64, up, down, size, round, toBits, neg
 use lib.Ieee.Fits.{down-pos, up-pos, eq→eqb}
 use Rattle.float64.proofs.Decode.{Means, not-number, endless, number, read}
 use Rattle.float64.proofs.Encode.{round-bits, pattern-same, infinite-bits}
-use Rattle.binary64.specs.Binary64.{infinity, quiet, signed, rounded, exactly, exactSum, exactProduct, exactQuotient, unlike, Value, sum, opposite, product, quotient, sumBits, differenceBits, productBits, quotientBits}
+use Rattle.binary64.specs.Binary64.{infinity, quiet, withSign, rounded, exactly, exactSum, exactProduct, exactQuotient, unlike, Value, sum, opposite, product, quotient, sumBits, differenceBits, productBits, quotientBits}
 
 same-test : (a b : Bool) → (T a → T b) → (T b → T a) → a ≡ b
 same-test true true p q = refl
@@ -30,7 +30,7 @@ pub nan-bits : toBits binary64 nan ≡ quiet
 unfolding toBits
 nan-bits = refl
 
-zero-bits : (s : Bool) → toBits binary64 (fin s 0 (pos 0)) ≡ signed s 0
+zero-bits : (s : Bool) → toBits binary64 (fin s 0 (pos 0)) ≡ withSign s 0
 unfolding toBits size
 zero-bits true = refl
 zero-bits false = refl
@@ -41,7 +41,7 @@ cond-bits false x y = refl
 
 -- ---- rounding, from the library's fraction to a fraction of units
 rounded-same : (s : Bool) (A C n den : ℕ) → 0 < C → 0 < den → A * L * den ≡ n * C → toBits f (round f s A C) ≡ rounded (exactly s n den)
-rounded-same s A C n den P D e = round-bits s A C P ∙ ap (signed s) (pattern-same 52 infinity (A * L) C n den P D e)
+rounded-same s A C n den P D e = round-bits s A C P ∙ ap (withSign s) (pattern-same 52 infinity (A * L) C n den P D e)
 
 -- ---- sums
 module _ (A B C u v : ℕ) (P : 0 < C) (a : A * L ≡ u * C) (b : B * L ≡ v * C) where
@@ -98,7 +98,7 @@ eqb-same n v d b =
     (λ t. eq→eqb (eq-of-mul-eq-mul-right (down d) (down-pos d) v 0 (sym b ∙ ap (λ (z : ℕ). z * up d * L) (eqb→eq n 0 t) ∙ ap (λ (z : ℕ). z * L) (zero-mul (up d)) ∙ zero-mul L ∙ sym (zero-mul (down d)))))
     (λ t. eq→eqb (eq-of-mul-eq-mul-right (up d) (up-pos d) n 0 (eq-of-mul-eq-mul-right L (pow-pos 1074) (n * up d) (0 * up d) (b ∙ ap (λ (z : ℕ). z * down d) (eqb→eq v 0 t) ∙ zero-mul (down d) ∙ sym (ap (λ (z : ℕ). z * L) (zero-mul (up d)) ∙ zero-mul L)))))
 
-nan-or-inf : (n v : ℕ) (d : ℤ) (s : Bool) → n * up d * L ≡ v * down d → toBits f (cond (eqb n 0) nan (inf s)) ≡ cond (eqb v 0) quiet (signed s infinity)
+nan-or-inf : (n v : ℕ) (d : ℤ) (s : Bool) → n * up d * L ≡ v * down d → toBits f (cond (eqb n 0) nan (inf s)) ≡ cond (eqb v 0) quiet (withSign s infinity)
 nan-or-inf n v d s b = rw (eqb-same n v d b) (cond-bits (eqb v 0) nan (inf s) ∙ rw (infinite-bits s, nan-bits))
 
 mul-finite : (s : Bool) (m : ℕ) (e : ℤ) (t : Bool) (n : ℕ) (d : ℤ) (u v : ℕ) → m * up e * L ≡ u * down e → n * up d * L ≡ v * down d → toBits f (mul f (fin s m e) (fin t n d)) ≡ rounded (exactProduct s u t v)
@@ -126,7 +126,7 @@ product-means (number s u m e a) (number t v n d b) = mul-finite s m e t n d u v
 
 -- ---- quotients
 div-finite : (s : Bool) (m : ℕ) (e : ℤ) (t : Bool) (n : ℕ) (d : ℤ) (u v : ℕ) → m * up e * L ≡ u * down e → n * up d * L ≡ v * down d
-    → toBits f (div f (fin s m e) (fin t n d)) ≡ cond (eqb v 0) (cond (eqb u 0) quiet (signed (unlike s t) infinity)) (rounded (exactQuotient s u t v))
+    → toBits f (div f (fin s m e) (fin t n d)) ≡ cond (eqb v 0) (cond (eqb u 0) quiet (withSign (unlike s t) infinity)) (rounded (exactQuotient s u t v))
 unfolding div
 div-finite s m e t n d u v a b =
     rw (eqb-same n v d b) (go (eqb v 0) (λ h e. subst (λ (z : ℕ). T (not (eqb z 0))) e h))
@@ -146,7 +146,7 @@ div-finite s m e t n d u v a b =
         right : (u E Y l : ℕ) → u * E * (Y * l) ≡ u * l * (Y * E)
         right u E Y l = simp (mul-assoc, mul-comm, mul-left-comm)
 
-    go : (z : Bool) → (T (not z) → v ≡ 0 → ⊥) → toBits f (cond z (cond (eqb m 0) nan (inf (unlike s t))) (round f (unlike s t) (m * up e * down d) (n * up d * down e))) ≡ cond z (cond (eqb u 0) quiet (signed (unlike s t) infinity)) (rounded (exactQuotient s u t v))
+    go : (z : Bool) → (T (not z) → v ≡ 0 → ⊥) → toBits f (cond z (cond (eqb m 0) nan (inf (unlike s t))) (round f (unlike s t) (m * up e * down d) (n * up d * down e))) ≡ cond z (cond (eqb u 0) quiet (withSign (unlike s t) infinity)) (rounded (exactQuotient s u t v))
     go true h = nan-or-inf m u e (unlike s t) a
     go false h = rounded-same (unlike s t) (m * up e * down d) (n * up d * down e) (u * L) v (mul-pos (mul-pos (n-some (h tt)) (up-pos d)) (down-pos e)) (some v (h tt)) (cross (m * up e) (n * up d) (down e) (down d) a b)
 

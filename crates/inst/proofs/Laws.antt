@@ -82,11 +82,11 @@ unfolding nameOk
 name-end s i h = rw (drop-of-length-le s h)
 
 -- `&l[from..to]` lends the slice
-pub lent : {A : Type 0} (from to : ℕ) (l : List A) → take (to - from) (drop from l) ≡ slice from to l
-lent zero to l = let e : to - 0 ≡ to = omega arith in rw e
-lent (suc from) zero l = let e : 0 - suc from ≡ 0 = omega arith in rw e
-lent (suc from) (suc to) [] = take-nil (suc to - suc from)
-lent (suc from) (suc to) (x ∷ xs) = let e : suc to - suc from ≡ to - from = omega arith in rw e (lent from to xs)
+pub slice-of : {A : Type 0} (from to : ℕ) (l : List A) → take (to - from) (drop from l) ≡ slice from to l
+slice-of zero to l = let e : to - 0 ≡ to = omega arith in rw e
+slice-of (suc from) zero l = let e : 0 - suc from ≡ 0 = omega arith in rw e
+slice-of (suc from) (suc to) [] = take-nil (suc to - suc from)
+slice-of (suc from) (suc to) (x ∷ xs) = let e : suc to - suc from ≡ to - from = omega arith in rw e (slice-of from to xs)
 
 -- stores behind stores
 pub sets-more : {A : Type 0} (vs l ws : List A) (i : ℕ) → sets (sets l i vs) (i + length vs) ws ≡ sets l i (vs ++ ws)

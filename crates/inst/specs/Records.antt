@@ -24,6 +24,13 @@ unfoldable pub nameOk : List ℕ → Bool
 nameOk [] = true
 nameOk (b ∷ bs) = ltb b 128 && nameOk bs
 
+-- two names are the same bytes
+unfoldable pub same : List ℕ → List ℕ → Bool
+same [] [] = true
+same [] (y ∷ ys) = false
+same (x ∷ xs) [] = false
+same (x ∷ xs) (y ∷ ys) = eqb x y && same xs ys
+
 -- a name's bytes, by start and length as document 01 has it
 abbrev pub part : List ℕ → ℕ → ℕ → List ℕ
 part image start len = slice start (start + len) image

@@ -3,7 +3,7 @@ ghost use mathlib.Core.Path.{_≡_};
 ghost use mathlib.Core.Bool.{_&&_};
 ghost use lib.Dec.{eqb};
 ghost use Rattle.inst.specs.Forms.{formAt, formTable};
-ghost use Rattle.inst.specs.Records.{nameOk, nameIn, fits, wellFormed};
+ghost use Rattle.inst.specs.Records.{nameOk, nameIn, same, fits, wellFormed};
 use crate::Inst;
 use crate::forms::EIGHT;
 use crate::forms::NAME;
@@ -19,6 +19,23 @@ pub fn name_ok(bytes: &[u8]) -> bool
     let mut i = 0;
     while i < bytes.len() {
         if bytes[i] >= 128 {
+            return false;
+        }
+        i += 1;
+    }
+    true
+}
+
+// Whether two names are the same bytes.
+pub fn same_name(a: &[u8], b: &[u8]) -> bool
+    ensures { λ r. ⌜ r ≡ same (now (a .entry)) (now (b .entry)) ⌝ }
+{
+    if a.len() != b.len() {
+        return false;
+    }
+    let mut i: usize = 0;
+    while i < a.len() {
+        if a[i] != b[i] {
             return false;
         }
         i += 1;

@@ -13,6 +13,7 @@ use inst::TABLE_SIZE;
 use inst::form;
 use inst::form_table;
 use inst::name_ok;
+use inst::ops;
 use word::word_at;
 
 // What decoding finds: a number of document 01 by its case, or a record and its size.
@@ -20,7 +21,7 @@ pub enum Decoded {
     Undefined,
     PastEnd,
     BadName,
-    Read(Inst, usize),
+    Read { inst: Inst, size: usize },
 }
 
 // An operand of eight bytes behind the first byte at `at`.
@@ -31,22 +32,22 @@ fn read_eight(image: &[u8], at: usize, op: u64) -> Decoded
     if image.len() - at < 9 {
         return Decoded::PastEnd;
     }
-    Decoded::Read(
-        Inst {
+    Decoded::Read {
+        inst: Inst {
             typ: op,
             val: word_at(image, at + 1),
             start: 0,
             len: 0,
         },
-        9,
-    )
+        size: 9,
+    }
 }
 
-// Byte 27 is read as FDMP.
+// IDMP is read as FDMP.
 fn type_of(op: u64) -> u64
     ensures { λ r. ⌜ r ≡ typeOf op ⌝ }
 {
-    if op == 27 { 46 } else { op }
+    if op == ops::IDMP { ops::FDMP } else { op }
 }
 
 // An operand of one byte.
@@ -57,15 +58,15 @@ fn read_one(image: &[u8], at: usize, op: u64) -> Decoded
     if image.len() - at < 2 {
         return Decoded::PastEnd;
     }
-    Decoded::Read(
-        Inst {
+    Decoded::Read {
+        inst: Inst {
             typ: type_of(op),
             val: image[at + 1] as u64,
             start: 0,
             len: 0,
         },
-        2,
-    )
+        size: 2,
+    }
 }
 
 // Bit 63 of a length field is set and the magnitude isn't 0.
@@ -96,15 +97,15 @@ fn read_name(image: &[u8], at: usize, op: u64, field: u64) -> Decoded
     if !name_ok(&image[start..end]) {
         return Decoded::BadName;
     }
-    Decoded::Read(
-        Inst {
+    Decoded::Read {
+        inst: Inst {
             typ: op,
             val: 0,
             start: start as u64,
             len: magnitude,
         },
-        9 + len,
-    )
+        size: 9 + len,
+    }
 }
 
 // An operand that is a name.
@@ -128,15 +129,15 @@ pub fn decode(forms: &[u8; TABLE_SIZE], image: &[u8], at: usize) -> Decoded
     }
     let op = image[at] as u64;
     match form(forms, op) {
-        NONE => Decoded::Read(
-            Inst {
+        NONE => Decoded::Read {
+            inst: Inst {
                 typ: op,
                 val: 0,
                 start: 0,
                 len: 0,
             },
-            1,
-        ),
+            size: 1,
+        },
         EIGHT => read_eight(image, at, op),
         ONE => read_one(image, at, op),
         NAME => read_named(image, at, op),

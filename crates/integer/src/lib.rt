@@ -7,7 +7,7 @@ use nan::from_i64;
 use nan::get_value;
 use nan::signed;
 
-// one more than the largest half of a word
+// 2^32: a word is multiplied by halves of 32 bits
 const HALF: u64 = 0x100000000;
 
 pub fn inc(cell: u64) -> u64

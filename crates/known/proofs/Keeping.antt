@@ -16,9 +16,9 @@ use Rattle.inst.proofs.Laws.{and-left, and-right}
 use Rattle.inst.specs.Records.{wellFormed}
 use Rattle.step_core.specs.declared.LookedUp.{LookedUp}
 use Rattle.step_core.specs.declared.LookedUp.the-variants.{NotAsked, NoLabel, IllChain, Target}
-use Rattle.known.specs.Known.{knownLimit, unknown, looksUp, instOf, Entries, Sized}
+use Rattle.known.specs.Known.{knownLimit, unknown, looksUp, Entries, Sized}
 use Rattle.known.specs.Keeps.{KeepsTarget, KeepsJump, isPlainAt, KeepsPlain, Learnt, Learns}
-use Rattle.tables.specs.Tables.{numberAt}
+use Rattle.tables.specs.Tables.{numberAt, instOf}
 
 -- an array in which a slot was set or not keeps its length
 same-length : (b : Bool) (xs : List ℕ) (i x : ℕ) → length (cond b (set xs i x) xs) ≡ length xs

@@ -8,9 +8,9 @@ use Rattle.machine.specs.declared.Machine.{Machine}
 use Rattle.machine.specs.Load.{halt}
 use Rattle.machine.specs.Lookup.{Program}
 use Rattle.machine.specs.Step.{instAt}
-use Rattle.tables.specs.Tables.{inst}
+use Rattle.tables.specs.Tables.{inst, instOf}
 use Rattle.tables.proofs.Laws.{record-at, length-records}
-use Rattle.known.specs.Known.{instOf, Over}
+use Rattle.known.specs.Known.{Over}
 
 module _ (p : Program) (xs : List ℕ) (o : Over p xs) (m : Machine) where
   pub inst-is : m .ip < p .count → instAt p m ≡ instOf xs (m .ip)

@@ -9,8 +9,8 @@ use lib.ListN.{length, getD, set}
 use Rattle.inst.specs.Records.{wellFormed}
 use Rattle.step_core.specs.declared.LookedUp.{LookedUp}
 use Rattle.step_core.specs.declared.LookedUp.the-variants.{NotAsked, NoLabel, IllChain, Target}
-use Rattle.known.specs.Known.{knownLimit, looksUp, instOf}
-use Rattle.tables.specs.Tables.{numberAt}
+use Rattle.known.specs.Known.{knownLimit, looksUp}
+use Rattle.tables.specs.Tables.{numberAt, instOf}
 
 -- the first byte of the instruction at an index, if the array has a slot for it
 pub record Keeps (keys : List ℕ) (i op : ℕ) (keys' : List ℕ) : Type 0 where

@@ -8,7 +8,7 @@ use lib.ListN.{length, getD}
 use Rattle.inst.specs.declared.Inst.{Inst}
 use Rattle.inst.specs.Records.{wellFormed}
 use Rattle.machine.specs.Lookup.{Program, leadsTo, lookup}
-use Rattle.tables.specs.Tables.{numberAt, inst, instsOf}
+use Rattle.tables.specs.Tables.{numberAt, inst, instsOf, instOf}
 
 -- so many instructions can be known, from the first on; and the key of one that isn't
 abbrev pub knownLimit : ℕ
@@ -20,10 +20,6 @@ unknown = 255
 -- the jumps and CALL
 abbrev pub looksUp : ℕ → Bool
 looksUp op = eqb op 28 || (leb 12 op && leb op 20)
-
--- the record at an index of the table xs
-abbrev pub instOf : List ℕ → ℕ → Inst
-instOf xs i = inst (numberAt xs (i * 4)) (numberAt xs (i * 4 + 1)) (numberAt xs (i * 4 + 2)) (numberAt xs (i * 4 + 3))
 
 -- record i is below the count and well formed, its first byte is the key, and the lookup of a jump or CALL finds t
 pub record KnownAt (p : Program) (xs : List ℕ) (key t i : ℕ) : Type 0 where

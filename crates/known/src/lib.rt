@@ -9,11 +9,13 @@ ghost use Prim.Native.Nat.{_+_, _*_, _<_, _≤_};
 ghost use lib.ListN.{length};
 ghost use Rattle.inst.specs.Forms.{formTable};
 ghost use Rattle.inst.specs.Records.{wellFormed};
-ghost use Rattle.known.specs.Known.{knownLimit, looksUp, instOf};
+ghost use Rattle.tables.specs.Tables.{instOf};
+ghost use Rattle.known.specs.Known.{knownLimit, looksUp};
 ghost use Rattle.known.specs.Keeps.{Keeps, KeepsJump, KeepsPlain, Learns};
-use inst::Inst;
 use inst::TABLE_SIZE;
+use inst::ops;
 use step_core::LookedUp;
+use tables::inst_at;
 use tables::number_at;
 
 // So many instructions can be known, from the first on.
@@ -31,27 +33,17 @@ pub fn is_well_formed_at(forms: &[u8; TABLE_SIZE], image: &[u8], insts: &[u8], a
     requires { ⌜ at * 32 + 31 < length (now insts) ⌝ }
     ensures { λ r. ⌜ r ≡ wellFormed (now (image .entry)) (instOf (now (insts .entry)) at) ⌝ }
 {
-    let i = at * 4;
-    inst::is_well_formed(
-        forms,
-        image,
-        Inst {
-            typ: number_at(insts, i),
-            val: number_at(insts, i + 1),
-            start: number_at(insts, i + 2),
-            len: number_at(insts, i + 3),
-        },
-    )
+    inst::is_well_formed(forms, image, inst_at(insts, at))
 }
 
 // Whether an instruction looks its name up: the jumps and CALL.
 pub fn looks_up(op: u64) -> bool
     ensures { λ r. ⌜ r ≡ looksUp op ⌝ }
 {
-    if op == 28 {
+    if op == ops::CALL {
         true
     } else {
-        if 12 <= op { op <= 20 } else { false }
+        if ops::JE <= op { op <= ops::JMP } else { false }
     }
 }
 
@@ -86,7 +78,8 @@ fn keep(keys: &mut [u8; KNOWN_LIMIT], at: usize, op: u64)
     }
 }
 
-// Where the instructions to keep from an index on end: at most AHEAD of them, and none if the first is kept.
+// The index behind the last instruction to test from `from` on: AHEAD further, or the count if that is less; 0 where `from` is
+// kept already or past the arrays.
 fn end_of(keys: &[u8; KNOWN_LIMIT], from: usize, count: usize) -> usize
     ensures { λ r. ⌜ r ≤ count ⌝ }
 {

@@ -1,34 +1,42 @@
--- A load under way whose label table is lent as records: what a turn of `from_binary` keeps, over plain values. Assumes nothing.
-use Prim.Native.Nat.{ℕ, suc, _+_, _*_, _/_, _<_, _≤_}
-use mathlib.Core.Path.{_≡_, refl, ap, sym, _∙_, subst}
-use mathlib.Core.Bool.{Bool, true, false, cond}
+-- The pass that links, where the label table is lent as records: what a turn of `mm_load_labels` keeps, and what it answers, over plain values. Assumes nothing.
+use Prim.Native.Nat.{ℕ, suc, _*_, _<_, _≤_}
+use mathlib.Core.Path.{_≡_, refl, ap, sym, _∙_}
+use mathlib.Core.Bool.{true, false}
 use mathlib.Core.List.{List, [], _∷_, _++_}
 use mathlib.Core.WellFounded.{WellFounded, InvImage·wf}
 use native.Mathlib.Nat.{zero-add}
 use native.Mathlib.Omega.{arith}
-use lib.ListN.{length}
+use lib.ListN.{length, getD, set, take, drop, length-set}
 use lib.Seq.{sets}
 use lib.WfN.{Nat·lt-wfRel}
-use Rattle.inst.specs.declared.Inst.{Inst}
 use Rattle.inst.proofs.Laws.{sets-more}
-use Rattle.machine.specs.Limits.{instLimit}
 use Rattle.machine.specs.declared.Label.{Label}
-use Rattle.machine.specs.Load.{head, linked, Load, rejects, accepts, load, labelsAfter}
-use Rattle.tables.specs.Tables.{inst, instsOf}
+use Rattle.machine.specs.Load.{head, linked, fresh, Load, rejects, accepts, labelsAfter}
+use Rattle.tables.specs.Tables.{instsOf}
 use Rattle.tables.proofs.Numbers.{sets-behind}
-use Rattle.tables.proofs.Laws.{length-records}
-use Rattle.loader.specs.declared.Pending.{Pending}
+use Rattle.loader.specs.declared.Linking.{Linking}
 use Rattle.loader.specs.declared.Loading.{Loading}
-use Rattle.loader.specs.Loading.{refuses, starts, freshAt, means}
-use Rattle.loader.specs.Filling.{linkedOn, begunAt, left, Fills}
-use Rattle.loader.proofs.Loads.{load-scans}
-use Rattle.loader.proofs.Underway as under
-use Rattle.label_loader.specs.Loading.{linkedAt, loadOf, FromBinary}
+use Rattle.loader.specs.declared.Loading.the-variants.{Refused, Accepted}
+use Rattle.loader.specs.Loading.{Answer, refuses, starts, freshAt, means, answerOf, instsLeft, LoadInsts}
+use Rattle.loader.specs.Linking.{headLink, nextLink}
+use Rattle.loader.proofs.Passing as pass
+use Rattle.loader.proofs.Passing.{linkedOn, left, left-falls}
+use Rattle.label_loader.specs.declared.LoadAnswer.{LoadAnswer}
+use Rattle.label_loader.specs.Loading.{loadOf, LoadCall, loadedBy, loadCall, numbersOf}
+
+-- a label record at its index, linked first: it leads to what the head led to, and the head to it
+abbrev pub new : List Label → Linking → Label
+new labels p = record { start = p .start; len = p .len; target = p .target; next = getD labels 0 (head 0) .next }
+
+abbrev pub linkedAt : List Label → Linking → List Label
+linkedAt labels p = set (set labels (p .index) (new labels p)) 0 (head (p .index))
+
+pub linked-long : (labels : List Label) (p : Linking) → length (linkedAt labels p) ≡ length labels
+linked-long labels p = length-set (set labels (p .index) (new labels p)) 0 (head (p .index)) ∙ length-set labels (p .index) (new labels p)
 
 -- a label more, or the head
-label-more : (xs ys : List Label) (p : Pending) (ls : List Label) → 0 < length xs → p .index ≡ length ls → ys ≡ sets xs 0 ls
-    → linkedAt ys (p .index) (p .start) (p .len) (p .target) ≡ sets xs 0 (linkedOn p ls)
-unfolding linkedAt linkedOn linked
+label-more : (xs ys : List Label) (p : Linking) (ls : List Label) → 0 < length xs → p .index ≡ length ls → ys ≡ sets xs 0 ls → linkedAt ys p ≡ sets xs 0 (linkedOn p ls)
+unfolding linkedOn linked
 label-more [] ys p ls z k e = absurd (omega arith)
 label-more (x ∷ xs) ys p [] z k e = rw (k, e)
 label-more (x ∷ xs) ys p (h ∷ ls) z k e =
@@ -36,73 +44,69 @@ label-more (x ∷ xs) ys p (h ∷ ls) z k e =
     let s : sets (sets xs 0 ls) (length ls) (new ∷ []) ≡ sets xs 0 (ls ++ (new ∷ [])) = ap (λ (n : ℕ). sets (sets xs 0 ls) n (new ∷ [])) (sym (zero-add (length ls))) ∙ sets-more ls xs (new ∷ []) 0 in
     rw (k, e ∙ sets-behind h xs ls 0) (ap (λ (l : List Label). head (suc (length ls)) ∷ l) s ∙ sym (sets-behind (head (suc (length ls))) xs (ls ++ (new ∷ [])) 0))
 
--- the room for labels is the table's length
-module _ (image insts₀ : List ℕ) (labels₀ : List Label) where
-  abbrev given : Load
-  given = loadOf image insts₀ labels₀
+-- the answer and both tables
+abbrev pub call : LoadAnswer → List ℕ → List Label → LoadCall
+call a insts labels = record { number = a .number; ip = a .ip; count = a .count; insts = insts; labels = labels }
 
-  abbrev room : ℕ
-  room = length labels₀
+-- the pointer of the machine of an answer that accepts
+abbrev pointer : Answer → ℕ
+pointer (refuses n) = 0
+pointer (starts m count) = m .ip
 
-  abbrev pub Fits : Pending → Type 0
-  Fits = under.Fits image insts₀ labels₀ (λ ls. ls) room given
+loaded-by : (o : Load) (insts : List ℕ) (labels : List Label) (r : Loading) → means r ≡ answerOf o → loadedBy o insts labels ≡ call (numbersOf r) (instsLeft o insts) (labelsAfter o labels)
+unfolding loadedBy means answerOf freshAt fresh instsLeft labelsAfter numbersOf
+loaded-by (rejects k) insts labels (Refused n) e = let d : k ≡ n = cc in rw d
+loaded-by (rejects k) insts labels (Accepted ip count) e = cc
+loaded-by (accepts l) insts labels (Refused n) e = cc
+loaded-by (accepts l) insts labels (Accepted ip count) e = let d : ip ≡ l .ip = ap pointer e in cc
 
-  -- what `begin` says
-  abbrev pub Began : Pending → Type 0
-  Began p = (is : List Inst) (ls : List Label) → length is ≡ length insts₀ / 32 → length ls ≡ room → p ≡ begunAt (load image is ls)
-
-  abbrev pub Holds : Pending → List ℕ → List Label → Type 0
-  Holds = under.Underway image insts₀ labels₀ (λ ls. ls) room given
+-- the answer r, and the instruction table that was filled
+module _ (image insts₀ : List ℕ) (labels₀ : List Label) (r : Loading) (insts : List ℕ) (f : LoadInsts (loadOf image insts₀ labels₀) insts₀ r insts) where
+  abbrev pub Holds : Linking → List Label → Type 0
+  Holds = pass.Underway image insts₀ labels₀ labels₀ (λ ls. ls)
 
   pub record State : Type 0 where
-    pub p : Pending
-    pub insts : List ℕ
+    pub p : Linking
     pub labels : List Label
-    pub holds : Holds p insts labels
-
-  abbrev weight : Pending → ℕ
-  weight p = left (length image) (p .on) (p .counts .at)
+    pub holds : Holds p labels
 
   abbrev pub Lower : State → State → Type 0
-  Lower x y = weight (x .p) < weight (y .p)
+  Lower x y = left (x .p) < left (y .p)
 
   pub falls : WellFounded Lower
-  falls = InvImage·wf (λ (x : State). weight (x .p)) (Nat·lt-wfRel .wf)
+  falls = InvImage·wf (λ (x : State). left (x .p)) (Nat·lt-wfRel .wf)
 
-  pub holds-first : (p : Pending) → Began p → Fits p → Holds p insts₀ labels₀
-  holds-first p b f = under.underway-begins image insts₀ labels₀ (λ ls. ls) room given p refl (load-scans image (instsOf insts₀) labels₀) (b (instsOf insts₀) labels₀ (length-records inst insts₀) refl) f
-
-  abbrev pub begun : (p : Pending) → Began p → Fits p → State
-  begun p b f = record { p = p; insts = insts₀; labels = labels₀; holds = holds-first p b f }
+  abbrev pub begun : (p : Linking) → p ≡ headLink (means r) → State
+  begun p e = record { p = p; labels = labels₀; holds = pass.underway-begins image insts₀ labels₀ labels₀ (λ ls. ls) r (f .answers) p e refl }
 
   module _ (x : State) (on : x .p .on ≡ true) where
     -- the label at hand has its place, and the instructions have theirs
     pub inside : x .p .index < length (x .labels)
-    inside = let k = x .holds .fits on in let n = x .holds .labels-long in omega (arith, k .1, k .3, n)
+    inside = let k = pass.index-inside image insts₀ labels₀ labels₀ (λ ls. ls) (x .p) (x .labels) (x .holds) on in let n = x .holds .labels-long in omega (arith, k, n)
 
-    pub fit : (instLimit * 32 ≤ length (x .insts)) × (x .p .count ≤ instLimit)
-    fit = let k = x .holds .fits on in let n = x .holds .insts-long in (omega (arith, k .0, n), k .2)
+    pub fit : (x .p .count * 32 ≤ length insts) × (x .p .index ≤ x .p .passed)
+    fit = pass.insts-inside image insts₀ labels₀ labels₀ (λ ls. ls) (x .p) (x .labels) (x .holds) on insts (f .insts-are)
 
-    module _ (q : Pending) (insts′ : List ℕ) (labels′ : List Label) (f : Fills image (x .insts) (x .p) q insts′) where
-      pub holds-on : length insts′ ≡ length (x .insts) → labels′ ≡ linkedAt (x .labels) (x .p .index) (x .p .start) (x .p .len) (x .p .target) → length labels′ ≡ length (x .labels) → Holds q insts′ labels′
-      holds-on i e j =
-          let k = x .holds .fits on in
-          let z : 0 < length labels₀ = omega (arith, k .1) in
-          under.underway-on image insts₀ labels₀ (λ ls. ls) room given (x .p) q (x .insts) (x .labels) insts′ labels′ on (x .holds) (λ ls n h. e ∙ label-more labels₀ (x .labels) (x .p) ls z n h) f i j
+    module _ (q : Linking) (e : q ≡ nextLink (x .p) (x .p .passed) (drop (x .p .passed) (take (x .p .count) (instsOf insts)))) where
+      pub holds-on : Holds q (linkedAt (x .labels) (x .p))
+      holds-on =
+          let z : 0 < length labels₀ = let a = inside in let b = x .holds .labels-long in omega (arith, a, b) in
+          pass.underway-on image insts₀ labels₀ labels₀ (λ ls. ls) (x .p) (x .labels) (x .holds) on insts (f .insts-are) q (linkedAt (x .labels) (x .p))
+          (λ ls n k. label-more labels₀ (x .labels) (x .p) ls z n k) e (linked-long (x .labels) (x .p))
 
-      abbrev pub onward : length insts′ ≡ length (x .insts) → labels′ ≡ linkedAt (x .labels) (x .p .index) (x .p .start) (x .p .len) (x .p .target) → length labels′ ≡ length (x .labels) → State
-      onward i e j = record { p = q; insts = insts′; labels = labels′; holds = holds-on i e j }
+      abbrev pub onward : State
+      onward = record { p = q; labels = linkedAt (x .labels) (x .p); holds = holds-on }
 
-      pub lower : weight q < weight (x .p)
-      lower = subst (λ (o : Bool). weight q < left (length image) o (x .p .counts .at)) (sym on) (f .falls)
+      pub lower : left q < left (x .p)
+      lower = left-falls (x .p) q (instsOf insts) on e
 
-  leaves-are : (x : Load) → under.leaves image insts₀ labels₀ (λ ls. ls) room given x ≡ labelsAfter x labels₀
-  unfolding under.leaves labelsAfter
+  leaves-are : (y : Load) → pass.leaves image insts₀ labels₀ labels₀ (λ ls. ls) y ≡ labelsAfter y labels₀
+  unfolding pass.leaves labelsAfter
   leaves-are (rejects n) = refl
   leaves-are (accepts l) = refl
 
-  pub over : (x : State) (r : Loading) → x .p .on ≡ false → means r ≡ cond (x .p .accepted) (starts (freshAt (x .p .ip)) (x .p .count)) (refuses (x .p .number))
-      → FromBinary image insts₀ labels₀ r (x .insts) (x .labels)
-  over x r o e =
-      let k = under.underway-ends image insts₀ labels₀ (λ ls. ls) room given (x .p) (x .insts) (x .labels) r o (x .holds) e in
-      record { answers = k .answers; insts-are = k .insts-are; labels-are = k .labels-are ∙ leaves-are given }
+  pub over : (x : State) → x .p .on ≡ false → (a : LoadAnswer) → a ≡ numbersOf r → loadCall image insts₀ labels₀ ≡ call a insts (x .labels)
+  unfolding loadCall
+  over x o a e =
+      let k = pass.underway-ends image insts₀ labels₀ labels₀ (λ ls. ls) (x .p) (x .labels) o (x .holds) in
+      rw (e, f .insts-are, k ∙ leaves-are (loadOf image insts₀ labels₀)) (loaded-by (loadOf image insts₀ labels₀) insts₀ labels₀ r (f .answers))

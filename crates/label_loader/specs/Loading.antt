@@ -1,25 +1,42 @@
 -- What the call answers and leaves where the label table is lent as records, by the load of document 01.
 use Prim.Native.Nat.{ℕ}
-use mathlib.Core.Path.{_≡_}
 use mathlib.Core.List.{List}
-use lib.ListN.{getD, set}
 use Rattle.machine.specs.declared.Label.{Label}
-use Rattle.machine.specs.Load.{Load, head, load, labelsAfter}
+use Rattle.machine.specs.Load.{Load, rejects, accepts, load, countOf, labelsAfter}
 use Rattle.tables.specs.Tables.{instsOf}
 use Rattle.loader.specs.declared.Loading.{Loading}
-use Rattle.loader.specs.Loading.{means, answerOf, instsLeft}
-
--- a label record at an index, linked first: it leads to what the head led to, and the head to it
-unfoldable pub linkedAt : List Label → ℕ → ℕ → ℕ → ℕ → List Label
-linkedAt labels index start len target =
-    set (set labels index (record { start = start; len = len; target = target; next = getD labels 0 (head 0) .next })) 0 (head index)
+use Rattle.loader.specs.declared.Loading.the-variants.{Refused, Accepted}
+use Rattle.loader.specs.Loading.{instsLeft}
+use Rattle.label_loader.specs.declared.LoadAnswer.{LoadAnswer}
 
 -- the load of document 01 with the instruction table lent as bytes
 abbrev pub loadOf : List ℕ → List ℕ → List Label → Load
 loadOf image insts labels = load image (instsOf insts) labels
 
--- what a call answers and leaves in the two tables
-pub record FromBinary (image insts : List ℕ) (labels : List Label) (r : Loading) (insts′ : List ℕ) (labels′ : List Label) : Type 0 where
-  pub answers : means r ≡ answerOf (loadOf image insts labels)
-  pub insts-are : insts′ ≡ instsLeft (loadOf image insts labels) insts
-  pub labels-are : labels′ ≡ labelsAfter (loadOf image insts labels) labels
+-- the answer's numbers and both tables afterwards
+pub record LoadCall : Type 0 where
+  pub number : ℕ
+  pub ip : ℕ
+  pub count : ℕ
+  pub insts : List ℕ
+  pub labels : List Label
+
+-- with a number everything is as it was; with 0 the pointer is the fresh machine's
+unfoldable pub loadedBy : Load → List ℕ → List Label → LoadCall
+loadedBy (rejects n) insts labels = record { number = n; ip = 0; count = 0; insts = insts; labels = labels }
+loadedBy (accepts l) insts labels =
+    record {
+      number = 0;
+      ip = l .ip;
+      count = countOf l;
+      insts = instsLeft (accepts l) insts;
+      labels = labelsAfter (accepts l) labels;
+    }
+
+unfoldable pub loadCall : (image insts : List ℕ) → List Label → LoadCall
+loadCall image insts labels = loadedBy (loadOf image insts labels) insts labels
+
+-- the answer of crate loader, as numbers
+unfoldable pub numbersOf : Loading → LoadAnswer
+numbersOf (Refused n) = record { number = n; ip = 0; count = 0 }
+numbersOf (Accepted ip count) = record { number = 0; ip = ip; count = count }

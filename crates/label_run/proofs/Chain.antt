@@ -10,12 +10,12 @@ use Rattle.inst.specs.declared.Inst.{Inst}
 use Rattle.machine.specs.declared.Label.{Label}
 use Rattle.machine.specs.Load.{head}
 use Rattle.lookup.specs.declared.Walk.{Walk}
-use Rattle.lookup.specs.Walks.{lent, Finds, Walks, Judges}
+use Rattle.lookup.specs.Walks.{lentProgram, Finds, Walks, Judges}
 
 module _ (image : List ℕ) (labels : List Label) (count start len : ℕ) where
   pub record State : Type 0 where
     pub w : Walk
-    pub walks : (insts : List Inst) → Walks (lent image insts labels count) start len w
+    pub walks : (insts : List Inst) → Walks (lentProgram image insts labels count) start len w
 
   abbrev pub Lower : State → State → Type 0
   Lower t u = t .w .bound < u .w .bound
@@ -23,7 +23,7 @@ module _ (image : List ℕ) (labels : List Label) (count start len : ℕ) where
   pub falls : WellFounded Lower
   falls = InvImage·wf (λ (t : State). t .w .bound) (Nat·lt-wfRel .wf)
 
-  abbrev pub starts : (r : Walk) → ((insts : List Inst) (ls : List Label) (c : ℕ) → length ls ≡ length labels → Walks (lent image insts ls c) start len r) → State
+  abbrev pub starts : (r : Walk) → ((insts : List Inst) (ls : List Label) (c : ℕ) → length ls ≡ length labels → Walks (lentProgram image insts ls c) start len r) → State
   starts r led = record { w = r; walks = λ insts. led insts labels count refl }
 
   module _ (t : State) where
@@ -34,5 +34,5 @@ module _ (image : List ℕ) (labels : List Label) (count start len : ℕ) where
       pub lower : r .bound < t .w .bound
       lower = led [] labels refl on (t .walks []) .falls
 
-    pub over : t .w .on ≡ false → (insts : List Inst) → Finds (lent image insts labels count) start len (t .w .answer)
+    pub over : t .w .on ≡ false → (insts : List Inst) → Finds (lentProgram image insts labels count) start len (t .w .answer)
     over off insts = t .walks insts .answered off

@@ -13,30 +13,33 @@ use Rattle.machine.specs.declared.Machine.{Machine}
 use Rattle.machine.specs.Lookup.{Program}
 use Rattle.machine.specs.Run as definition
 use Rattle.tables.specs.Tables.{instsOf}
-use Rattle.step_core.specs.declared.Core.{Core}
+use Rattle.step_core.specs.declared.Registers.{Registers}
 use Rattle.step_core.specs.declared.LookedUp.{LookedUp}
-use Rattle.step_core.specs.Parts.{whole}
-use Rattle.lookup.specs.Walks.{lent, Finds}
+use Rattle.step_core.specs.Parts.{ofParts}
+use Rattle.lookup.specs.Walks.{lentProgram, Finds}
 use Rattle.known.specs.Known.{knownLimit, unknown}
 use Rattle.run.specs.declared.progress.Progress.{Progress}
 use Rattle.run.specs.declared.Ran.{Ran}
 use Rattle.run.specs.Turns.{endingOf}
+use Rattle.step.specs.Steps.{arrays}
 use Rattle.run.specs.Runs.{Begun, Ready, Advances, Stands, weight, answer, runBytes}
 use Rattle.run.proofs.Edges.{reports}
 use Rattle.run.proofs.Running.{ready}
+use Rattle.c_answers.specs.Endings.{endingNumber}
+use Rattle.label_run.specs.Runs.{ranBy}
 
 -- the numbers of a machine, as `begin` takes them
-abbrev pub core : Machine → Core
-core m = record { ip = m .ip; height = m .height; «call_height» = m .«call_height» }
+abbrev pub registers : Machine → Registers
+registers m = record { ip = m .ip; height = m .height; «call_height» = m .«call_height» }
 
 -- what `pack` returns
 abbrev pub packed : ℕ → Progress → List ℕ → List ℕ → List ℕ → Ran
 packed limit o stack calls memory =
-    record { machine = whole (o .core) (o .flags) stack calls memory (eqb (o .ending) 0); ending = endingOf (o .ending) (o .number); steps = limit - o .left; dumped = o .dumped }
+    record { machine = ofParts (o .registers) (o .flags) stack calls memory (eqb (o .ending) 0); ending = endingOf (o .ending) (o .number); steps = limit - o .left; dumped = o .dumped }
 
 module _ (image insts : List ℕ) (labels : List Label) (count limit : ℕ) (m : Machine) (buffer : List ℕ) where
   abbrev pub program : Program
-  program = lent image (instsOf insts) labels count
+  program = lentProgram image (instsOf insts) labels count
 
   pub record State : Type 0 where
     pub o : Progress
@@ -55,7 +58,7 @@ module _ (image insts : List ℕ) (labels : List Label) (count limit : ℕ) (m :
   pub falls : WellFounded Lower
   falls = InvImage·wf (λ (t : State). weight image (t .o)) (Nat·lt-wfRel .wf)
 
-  abbrev pub starts : length image < 2 ^ 64 → (r : Progress) → Begun insts count (core m) (m .flags) (m .halted) limit r → State
+  abbrev pub starts : length image < 2 ^ 64 → (r : Progress) → Begun insts count (registers m) (m .flags) (m .halted) limit r → State
   starts fits r begun = record {
     o = r;
     dumps = buffer;
@@ -73,9 +76,9 @@ module _ (image insts : List ℕ) (labels : List Label) (count limit : ℕ) (m :
       pub is-ready : Ready insts count (t .o) (t .dumps) (t .keys) (t .targets)
       is-ready = ready (t .stands) on
 
-      module _ (found : LookedUp) (finds : (is : List Inst) → Finds (lent image is labels count) (t .o .start) (t .o .len) found)
+      module _ (found : LookedUp) (finds : (is : List Inst) → Finds (lentProgram image is labels count) (t .o .start) (t .o .len) found)
           (r : Progress) (dumps stack calls memory keys targets : List ℕ) (long : length dumps ≡ length (t .dumps))
-          (led : Advances image insts count (t .o) found (t .dumps) (t .keys) (t .targets) (t .stack) (t .calls) (t .memory) r dumps keys targets stack calls memory) where
+          (led : Advances image insts count (t .o) found (t .dumps) (arrays (t .keys) (t .targets) (t .stack) (t .calls) (t .memory)) r dumps (arrays keys targets stack calls memory)) where
         abbrev pub onward : State
         onward = record {
           o = r;
@@ -98,3 +101,9 @@ module _ (image insts : List ℕ) (labels : List Label) (count limit : ℕ) (m :
 
       pub over : answer (packed limit (t .o) (t .stack) (t .calls) (t .memory)) (t .dumps) ≡ runBytes program limit buffer m
       over = reports program m limit buffer (t .o) (t .dumps) (t .stack) (t .calls) (t .memory) (t .stands .reached off)
+
+-- what a run by value answers, as a run in place does: n is the ending's number
+pub in-place : (w : definition.Result) (r : Ran) (dumps : List ℕ) (n : ℕ) → answer r dumps ≡ w → n ≡ endingNumber (r .ending)
+    → ranBy w ≡ record { ending = n; steps = r .steps; dumped = r .dumped; machine = r .machine; dumps = dumps }
+unfolding ranBy
+in-place w r dumps n gives is = rw (← gives, is) refl

@@ -1,26 +1,27 @@
 // The lookup and the run over a label table that is a slice of records. The lookup reads one record each turn, and crate
 // lookup's `judge` decides on it; the run is crate run's, which stops where it needs a lookup. Proved by hand: the borrow
 // checker covers no reference to a struct.
+ghost use mathlib.Core.Path.{_≡_};
 ghost use mathlib.Core.List.{List};
 ghost use Rattle.inst.specs.declared.Inst.{Inst};
-ghost use Rattle.lookup.specs.Walks.{lent, Finds};
-ghost use Rattle.label_run.specs.Runs.{ExecuteProgram, ExecuteInPlace};
+ghost use Rattle.lookup.specs.Walks.{lentProgram, Finds};
+ghost use Rattle.label_run.specs.Runs.{ExecuteProgram, runCall};
+use c_answers::ending_number;
 use known::KNOWN_LIMIT;
 use known::UNKNOWN;
 use lookup::judge;
-use machine::Ending;
 use machine::Label;
 use machine::Machine;
 use run::Ran;
 use run::begin;
 use run::pack;
 use run::steps;
-use step_core::Core;
 use step_core::LookedUp;
+use step_core::Registers;
 
 // What the lookup of a name answers, as crate lookup's.
 pub fn lookup(image: &[u8], labels: &[Label], count: usize, start: u64, len: u64) -> LookedUp
-    ensures { λ r. ⌜ ((insts : List Inst) → Finds (lent (now (image .entry)) insts (now (labels .entry)) count) start len r) ⌝ }
+    ensures { λ r. ⌜ ((insts : List Inst) → Finds (lentProgram (now (image .entry)) insts (now (labels .entry)) count) start len r) ⌝ }
 {
     let mut w = lookup::begin(image, labels.len(), start, len);
     while w.on {
@@ -42,7 +43,7 @@ pub fn execute_program(
 ) -> Ran
     ensures { λ r. ⌜ ExecuteProgram (now (image .entry)) (now (insts .entry)) (now (labels .entry)) count m limit (now (dumps .entry)) r (now (dumps .exit)) ⌝ }
 {
-    let core = Core {
+    let registers = Registers {
         ip: m.ip,
         height: m.height,
         call_height: m.call_height,
@@ -52,7 +53,7 @@ pub fn execute_program(
     let mut memory = m.memory;
     let mut keys = [UNKNOWN; KNOWN_LIMIT];
     let mut targets = [0u16; KNOWN_LIMIT];
-    let mut progress = begin(insts, count, core, m.flags, m.halted, limit);
+    let mut progress = begin(insts, count, registers, m.flags, m.halted, limit);
     while progress.on {
         let found = lookup(image, labels, count, progress.start, progress.len);
         progress = steps(
@@ -72,30 +73,26 @@ pub fn execute_program(
     pack(stack, calls, memory, progress, limit)
 }
 
-// What a run in place reports.
-pub struct Report {
-    pub ending: Ending,
-    pub steps: u64,
-    pub dumped: usize,
-}
-
-// A run over a machine that is lent: the machine that the run leaves stands in its place.
-pub fn execute_in_place(
+// The entry by exclusive reference: the machine that the run leaves stands in the place of the one that was lent, and the
+// answer is numbers, so that a host can call it. The archive's only caller of execute_program.
+#[no_mangle]
+pub extern "C" fn mm_run_in_place(
     image: &[u8],
     insts: &[u8],
     labels: &[Label],
-    count: usize,
+    count: u64,
     m: &mut Machine,
     limit: u64,
     dumps: &mut [u8],
-) -> Report
-    ensures { λ r. ⌜ ExecuteInPlace (now (image .entry)) (now (insts .entry)) (now (labels .entry)) count (now (m .entry)) limit (now (dumps .entry)) r (now (m .exit)) (now (dumps .exit)) ⌝ }
+) -> c_answers::Ran
+    ensures { λ r. ⌜ runCall (now (image .entry)) (now (insts .entry)) (now (labels .entry)) count (now (m .entry)) limit (now (dumps .entry)) ≡ record { ending = r .ending; steps = r .steps; dumped = r .dumped; machine = now (m .exit); dumps = now (dumps .exit) } ⌝ }
 {
-    let r = execute_program(image, insts, labels, count, *m, limit, dumps);
+    let r = execute_program(image, insts, labels, count as usize, *m, limit, dumps);
     *m = r.machine;
-    Report {
-        ending: r.ending,
+    let ending = ending_number(r.ending);
+    c_answers::Ran {
+        ending: ending,
         steps: r.steps,
-        dumped: r.dumped,
+        dumped: r.dumped as u64,
     }
 }

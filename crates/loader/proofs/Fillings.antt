@@ -1,147 +1,116 @@
--- What holds while the instructions of an accepted image are filled in, up to the next label. Assumes nothing.
-use Prim.Native.Nat.{ℕ, _*_, _<_, _≤_}
-use mathlib.Core.Path.{_≡_, refl, ap, sym, _∙_}
+-- What holds while the instructions of an accepted image are filled in. Assumes nothing.
+use Prim.Native.Nat.{ℕ, _+_, _*_, _<_, _≤_}
+use mathlib.Core.Path.{_≡_, refl, ap, sym, _∙_, subst}
 use mathlib.Core.Bool.{cond}
-use mathlib.Core.List.{List, [], _∷_}
+use mathlib.Core.List.{List, [], _∷_, _++_}
 use native.Mathlib.Omega.{arith}
-use lib.Dec.{ltb}
-use lib.ListN.{length}
+use lib.Dec.{ltb, leb}
+use lib.ListN.{length, length-append}
 use lib.Seq.{sets}
-use borrow.Author.Tests.{eq-eqb, ne-eqb}
+use borrow.Author.Tests.{leb-false}
 use Rattle.inst.specs.declared.Inst.{Inst}
-use Rattle.inst_decode.specs.Decode.{fromBytes}
-use Rattle.inst.proofs.Laws.{never}
-use Rattle.machine.specs.declared.Label.{Label}
-use Rattle.machine.specs.Load.{halt, linked, Scan, scanOne, closed, Loaded, accepts}
-use Rattle.tables.specs.Tables.{bytesOf, instNumbers, instBytes}
-use Rattle.loader.specs.declared.Counts.{Counts}
-use Rattle.loader.specs.declared.Pending.{Pending}
-use Rattle.loader.specs.declared.Next.{Next}
-use Rattle.loader.specs.declared.Next.the-variants.{Refused, Read}
-use Rattle.loader.specs.Reading.{countsOf, nextOf, Further}
-use Rattle.loader.specs.Filling.{linkedOn, pausedAt, endedAt, Rest, Answers, Paused, HasInsts, StopsOrEnds, left, Fills}
-use Rattle.loader.proofs.Rests.{Passes, passes, refuses-there, ends-there}
-use Rattle.loader.proofs.Loads.{never-both, is-closed}
+use Rattle.inst.proofs.Laws.{by-test}
+use Rattle.inst_decode.specs.Decode.{refused, reads, fromBytes}
+use Rattle.inst_decode.proofs.Facts.{read-in}
+use Rattle.machine.specs.Limits.{instLimit, labelRecords}
+use Rattle.machine.specs.Load.{isLabel, halt, Scan, Scanned, stops, goes, begin, scanOne, closed, Loaded, accepts, loads}
+use Rattle.tables.specs.Tables.{numbersOf, bytesOf, instNumbers, instBytes}
+use Rattle.loader.specs.Loading.{instsLeft, Accepts}
+use Rattle.loader.proofs.Rests.{Rest, rest-next, rest-stop, rest-end}
+use Rattle.loader.proofs.Loads.{never-both, is-closed, accepted-rest}
 use Rattle.loader.proofs.Stores.{inst-more, halt-more}
 
--- read up to `to`, with no label behind s, and all of it stored
-pub record Reached (image xs : List ℕ) (l : Loaded) (s : Scan) (c : Counts) (insts : List ℕ) : Type 0 where
+-- where the scan s goes on with the instruction i of this size: the bytes and the instructions that it has then
+unfoldable Took : Scan → Inst → ℕ → Scanned → Type 0
+Took s i size (stops n) = Unit {0}
+Took s i size (goes t) = (t .at ≡ s .at + size) × (t .insts ≡ s .insts ++ (i ∷ [])) × (length (s .insts) < instLimit)
+
+took : (s : Scan) (i : Inst) (size : ℕ) → Took s i size (scanOne s (reads i size))
+unfolding Took scanOne
+took s i size =
+    by-test (Took s i size) (leb instLimit (length (s .insts))) _ _ (λ _. tt)
+    (λ k. by-test (Took s i size) (isLabel i) _ _
+    (λ _. by-test (Took s i size) (leb labelRecords (length (s .labels))) _ _ (λ _. tt) (λ _. (refl, refl, leb-false _ _ k)))
+    (λ _. (refl, refl, leb-false _ _ k)))
+
+-- read up to `to`, which is at this byte and has n instructions, and all of it stored into xs
+pub record Reached (image xs : List ℕ) (l : Loaded) (at n : ℕ) (insts : List ℕ) : Type 0 where
   pub to : Scan
-  pub counts-are : c ≡ countsOf image to
-  pub has-head : 0 < length (to .labels)
+  pub at-is : at ≡ to .at
+  pub count-is : n ≡ length (to .insts)
   pub rest : Rest image to (accepts l)
-  pub labels-same : to .labels ≡ s .labels
-  pub has-insts : HasInsts xs to insts
+  pub has-insts : insts ≡ sets xs 0 (instBytes (to .insts))
 
-abbrev pub Leads : List ℕ → List ℕ → Pending → Counts → List ℕ → Type 0
-Leads image insts₀ p c insts =
-    (xs : List ℕ) (l : Loaded) (before : List Label) (s : Scan) → Answers l p → Paused image l before s p → HasInsts xs s insts₀ → Reached image xs l s c insts
+-- the instruction i of this size comes next
+record Further (image : List ℕ) (l : Loaded) (s : Scan) (i : Inst) (size : ℕ) : Type 0 where
+  to : Scan
+  at-is : to .at ≡ s .at + size
+  insts-are : to .insts ≡ s .insts ++ (i ∷ [])
+  below : length (s .insts) < instLimit
+  rest : Rest image to (accepts l)
 
-insts-of : (image : List ℕ) (c : Counts) (s : Scan) → c ≡ countsOf image s → c .insts ≡ length (s .insts)
-unfolding countsOf
-insts-of image c s e = ap (λ (x : Counts). x .insts) e
+module _ (image xs : List ℕ) where
+  -- whatever the image loads to
+  abbrev pub Filling : ℕ → ℕ → List ℕ → Type 0
+  Filling at n insts = (l : Loaded) → loads image ≡ accepts l → Reached image xs l at n insts
 
-labels-of : (image : List ℕ) (c : Counts) (s : Scan) → c ≡ countsOf image s → c .labels ≡ length (s .labels)
-unfolding countsOf
-labels-of image c s e = ap (λ (x : Counts). x .labels) e
+  pub filling-begins : Filling 0 0 xs
+  unfolding numbersOf bytesOf
+  filling-begins l a = record { to = begin; at-is = refl; count-is = refl; rest = accepted-rest image l a; has-insts = refl }
 
--- a label that is linked behind a head
-label-on : (p : Pending) (i : Inst) (n : ℕ) (ls : List Label) → 0 < length ls → p .start ≡ i .start → p .len ≡ i .len → p .target ≡ n → linked i n ls ≡ linkedOn p ls
-unfolding linked linkedOn
-label-on p i n [] h a b c = absurd (omega arith)
-label-on p i n (k ∷ ls) h a b c = rw (a, b, c)
-
-module _ (image insts₀ : List ℕ) (p : Pending) where
-  pub leads-begin : Leads image insts₀ p (p .counts) insts₀
-  leads-begin xs l before s a q e =
-      record { to = s; counts-are = q .counts-are; has-head = q .has-head; rest = q .rest; labels-same = refl; has-insts = e }
-
-  module _ (c : Counts) (insts : List ℕ) (f : Leads image insts₀ p c insts) where
+  module _ (at n : ℕ) (insts : List ℕ) (f : Filling at n insts) where
     -- at the image's end
-    pub fills-end : length image ≤ c .at → (insts′ : List ℕ)
-        → insts′ ≡ cond (ltb (c .insts) (p .count)) (sets insts (c .insts * 32) (bytesOf (instNumbers halt))) insts → (q : Pending) → q ≡ endedAt p → Fills image insts₀ p q insts′
-    unfolding left StopsOrEnds
-    fills-end h insts′ t q e =
-        rw e (record {
-          falls = omega arith;
-          count-same = refl;
-          index-fits = λ o. never o;
-          leads = λ xs l before s a z y.
-              let r = f xs l before s a z y in
-              let k = is-closed image l (r .to) (ends-there image (accepts l) c (r .to) (r .counts-are) (r .rest) h) in
-              let n : p .count ≡ length (closed (r .to .insts)) = a .count-is ∙ ap length (k .insts-are) in (
-                record { accepted-is = a .accepted-is; ip-is = a .ip-is; count-is = a .count-is },
-                record {
-                  all-insts = t
-                      ∙ ap (λ (m : ℕ). cond (ltb (c .insts) m) (sets insts (c .insts * 32) (bytesOf (instNumbers halt))) insts) n
-                      ∙ halt-more xs insts (r .to .insts) (c .insts) (insts-of image c (r .to) (r .counts-are)) (r .has-insts)
-                      ∙ ap (λ (is : List Inst). sets xs 0 (instBytes is)) (sym (k .insts-are));
-                  all-labels = sym (k .labels-are ∙ r .labels-same);
-                },
-              );
-        })
+    pub filling-ends : length image ≤ at → (count : ℕ) → Accepts image count → (insts′ : List ℕ)
+        → insts′ ≡ cond (ltb n count) (sets insts (n * 32) (bytesOf (instNumbers halt))) insts → insts′ ≡ instsLeft (loads image) xs
+    unfolding instsLeft
+    filling-ends h count a insts′ t =
+        let l = a .loaded in
+        let r = f l (a .is) in
+        let k = is-closed image l (r .to) (rest-end image (r .to) (accepts l) (rw (r .at-is) at h) (r .rest)) in
+        let m : count ≡ length (closed (r .to .insts)) = a .count-is ∙ ap length (k .insts-are) in
+        rw (a .is)
+        (t
+        ∙ ap (λ (m : ℕ). cond (ltb n m) (sets insts (n * 32) (bytesOf (instNumbers halt))) insts) m
+        ∙ halt-more xs insts (r .to .insts) n (r .count-is) (r .has-insts)
+        ∙ ap (λ (is : List Inst). sets xs 0 (instBytes is)) (sym (k .insts-are)))
 
-    module _ (h : c .at < length image) (x : Next) (g : (s : Scan) → 0 < length (s .labels) → c ≡ countsOf image s → x ≡ nextOf image (scanOne s (fromBytes image (s .at)))) where
+    module _ (h : at < length image) where
       -- a refusal is never met
-      pub fills-never : (n : ℕ) → x ≡ Refused n → (q : Pending) → q ≡ endedAt p → Fills image insts₀ p q insts
-      unfolding left StopsOrEnds
-      fills-never n w q e =
-          rw e (record {
-            falls = omega arith;
-            count-same = refl;
-            index-fits = λ o. never o;
-            leads = λ xs l before s a z y.
-                let r = f xs l before s a z y in
-                never-both n l (refuses-there image (accepts l) c (r .to) (r .counts-are) (r .has-head) (r .rest) h n (sym w ∙ g (r .to) (r .has-head) (r .counts-are)));
-          })
+      pub filling-never : {A : Type 0} (count : ℕ) → Accepts image count → (m : ℕ) → fromBytes image at ≡ refused m → A
+      unfolding scanOne
+      filling-never count a m e =
+          let l = a .loaded in
+          let r = f l (a .is) in
+          let q : scanOne (r .to) (fromBytes image (r .to .at)) ≡ stops m = ap (λ (p : ℕ). scanOne (r .to) (fromBytes image p)) (sym (r .at-is)) ∙ ap (scanOne (r .to)) e in
+          never-both m l (rest-stop image (r .to) (accepts l) (rw (r .at-is) at h) m (r .rest) q)
 
-      module _ (d : Counts) (i : Inst) (w : x ≡ Read d i) (b : Further (length image) c d i) (insts′ : List ℕ) (t : insts′ ≡ sets insts (c .insts * 32) (bytesOf (instNumbers i))) where
-        pass : (xs : List ℕ) (l : Loaded) (s : Scan) → (r : Reached image xs l s c insts) → Passes image (accepts l) c d (r .to) i
-        pass xs l s r = passes image (accepts l) c (r .to) (r .counts-are) (r .has-head) (r .rest) h d i (b .moves) (sym w ∙ g (r .to) (r .has-head) (r .counts-are))
+      module _ (i : Inst) (size : ℕ) (e : fromBytes image at ≡ reads i size) where
+        by-scan : (l : Loaded) (r : Reached image xs l at n insts) (x : Scanned) → scanOne (r .to) (fromBytes image (r .to .at)) ≡ x → Took (r .to) i size x → Further image l (r .to) i size
+        unfolding Took
+        by-scan l r (stops m) w k = never-both m l (rest-stop image (r .to) (accepts l) (rw (r .at-is) at h) m (r .rest) w)
+        by-scan l r (goes t) w k =
+            let m = read-in image at i size e .moves in
+            record { to = t; at-is = k .0; insts-are = k .1; below = k .2; rest = rest-next image (r .to) (accepts l) (rw (r .at-is) at h) t (r .rest) w (omega (arith, m, k .0)) }
 
-        stored : (xs : List ℕ) (l : Loaded) (s : Scan) → (r : Reached image xs l s c insts) → HasInsts xs (pass xs l s r .to) insts′
-        stored xs l s r =
-            let k = pass xs l s r in
-            t ∙ inst-more xs insts (r .to .insts) i (c .insts) (insts-of image c (r .to) (r .counts-are)) (r .has-insts) ∙ ap (λ is. sets xs 0 (instBytes is)) (sym (k .grows .insts-are))
+        further : (l : Loaded) (r : Reached image xs l at n insts) → Further image l (r .to) i size
+        further l r =
+            let q : fromBytes image (r .to .at) ≡ reads i size = ap (fromBytes image) (sym (r .at-is)) ∙ e in
+            by-scan l r _ refl (subst (λ a. Took (r .to) i size (scanOne (r .to) a)) (sym q) (took (r .to) i size))
 
-        -- an instruction that is no label
-        pub leads-more : (i .typ ≡ 21 → ⊥) → Leads image insts₀ p d insts′
-        leads-more m xs l before s a z y =
-            let r = f xs l before s a z y in
-            let k = pass xs l s r in
+        -- its record has room
+        pub filling-room : (count : ℕ) → Accepts image count → n < instLimit
+        filling-room count a = let r = f (a .loaded) (a .is) in let k = further (a .loaded) r .below in omega (arith, k, r .count-is)
+
+        -- an instruction more
+        pub filling-next : (insts′ : List ℕ) → insts′ ≡ sets insts (n * 32) (bytesOf (instNumbers i)) → Filling (at + size) (n + 1) insts′
+        filling-next insts′ t l a =
+            let r = f l a in
+            let k = further l r in
+            let more = length-append (r .to .insts) (i ∷ []) in
             record {
               to = k .to;
-              counts-are = k .counts-are;
-              has-head = k .has-head;
+              at-is = ap (λ (p : ℕ). p + size) (r .at-is) ∙ sym (k .at-is);
+              count-is = omega (arith, r .count-is, more, ap length (k .insts-are));
               rest = k .rest;
-              labels-same = (rw (ne-eqb _ _ m) at (k .grows .labels-are)) ∙ r .labels-same;
-              has-insts = stored xs l s r;
+              has-insts = t ∙ inst-more xs insts (r .to .insts) i n (r .count-is) (r .has-insts) ∙ ap (λ is. sets xs 0 (instBytes is)) (sym (k .insts-are));
             }
-
-        -- a label
-        pub fills-label : p .counts .at ≤ c .at → i .typ ≡ 21 → (q : Pending) → q ≡ pausedAt p c d i → Fills image insts₀ p q insts′
-        unfolding left StopsOrEnds
-        fills-label o m q e =
-            rw e (record {
-              falls = let u = b .moves in let v = b .inside in omega arith;
-              count-same = refl;
-              index-fits = λ _. b .labels-fit (eq-eqb _ _ m);
-              leads = λ xs l before s a z y.
-                  let r = f xs l before s a z y in
-                  let k = pass xs l s r in (
-                    record { accepted-is = a .accepted-is; ip-is = a .ip-is; count-is = a .count-is },
-                    record {
-                      scan = k .to;
-                      paused = record {
-                        counts-are = k .counts-are;
-                        has-head = k .has-head;
-                        rest = k .rest;
-                        labels-are = (rw (eq-eqb _ _ m) at (k .grows .labels-are))
-                            ∙ label-on (pausedAt p c d i) i (length (r .to .insts)) (r .to .labels) (r .has-head) refl refl (insts-of image c (r .to) (r .counts-are))
-                            ∙ ap (linkedOn (pausedAt p c d i)) (r .labels-same);
-                        index-is = labels-of image c (r .to) (r .counts-are) ∙ ap length (r .labels-same);
-                      };
-                      has-insts = stored xs l s r;
-                    },
-                  );
-            })

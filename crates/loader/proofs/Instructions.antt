@@ -7,20 +7,20 @@ use native.Mathlib.Omega.{arith}
 use lib.ListN.{length}
 use types.Run.{OneOf}
 use denote.Enum.Declared.{tagOf}
-use borrow.Author.Tests.{eq-eqb, ne-eqb, eqb-true, le-leb, lt-leb}
+use borrow.Author.Tests.{eq-eqb, ne-eqb, le-leb, lt-leb}
 use Rattle.inst.specs.declared.Inst.{Inst}
-use Rattle.inst.specs.Records.{part}
+use Rattle.inst.specs.Records.{part, same}
 use Rattle.inst_decode.specs.declared.Decoded.{Decoded}
 use Rattle.inst_decode.specs.declared.Decoded.the-variants as D
 use Rattle.inst_decode.specs.Decode.{refused, reads, means, fromBytes}
 use Rattle.inst_decode.proofs.Decoded.{the-type}
 use Rattle.inst_decode.proofs.Facts.{read-in}
 use Rattle.machine.specs.Limits.{instLimit, labelRecords}
-use Rattle.machine.specs.Load.{same, startName, linked, Scan, scanOne}
+use Rattle.machine.specs.Load.{startName, linked, Scan, scanOne}
 use Rattle.loader.specs.declared.Counts.{Counts}
 use Rattle.loader.specs.declared.Next.the-variants.{Refused, Read}
 use Rattle.loader.specs.Reading.{numberIn, countsOf, counted, labelled, nextOf, Further}
-use Rattle.loader.proofs.Scans.{counts-plain, counts-label, snoc-last}
+use Rattle.loader.proofs.Scans.{counts-plain, counts-label}
 
 -- what isn't read is refused
 pub refused-is : (d : Decoded) → OneOf (0 ∷ 1 ∷ 2 ∷ []) (tagOf the-type d) → means d ≡ refused (numberIn (means d))
@@ -61,10 +61,10 @@ module _ (image : List ℕ) (c : Counts) (s : Scan) (e : c ≡ countsOf image s)
     next-six h k l =
         simp (read-is, lt-leb instLimit (length (s .insts)) (rw insts-is at h), eq-eqb _ _ k, le-leb labelRecords (length (s .labels)) (rw labels-is at l))
 
-    pub next-plain : c .insts < instLimit → (i .typ ≡ 21 → ⊥) → Read (counted c (i .typ) size) i ≡ nextOf image (scanOne s (fromBytes image (s .at)))
+    pub next-plain : c .insts < instLimit → (i .typ ≡ 21 → ⊥) → Read (counted c (i .typ) size) ≡ nextOf image (scanOne s (fromBytes image (s .at)))
     unfolding nextOf scanOne
     next-plain h k =
-        simp (read-is, lt-leb instLimit (length (s .insts)) (rw insts-is at h), ne-eqb _ _ k, counts-plain, snoc-last, e)
+        simp (read-is, lt-leb instLimit (length (s .insts)) (rw insts-is at h), ne-eqb _ _ k, counts-plain, e)
 
     label-kept : 0 < length (s .labels)
         → labelled (counted c (i .typ) size) (same startName (part image (i .start) (i .len))) (c .insts)
@@ -75,20 +75,16 @@ module _ (image : List ℕ) (c : Counts) (s : Scan) (e : c ≡ countsOf image s)
         ∙ sym (counts-label image (s .at) (s .insts) (s .labels) i size z)
 
     pub next-label : 0 < length (s .labels) → c .insts < instLimit → i .typ ≡ 21 → c .labels < labelRecords
-        → Read (labelled (counted c (i .typ) size) (same startName (part image (i .start) (i .len))) (c .insts)) i ≡ nextOf image (scanOne s (fromBytes image (s .at)))
+        → Read (labelled (counted c (i .typ) size) (same startName (part image (i .start) (i .len))) (c .insts)) ≡ nextOf image (scanOne s (fromBytes image (s .at)))
     unfolding nextOf scanOne
     next-label z h k l =
-        simp (read-is, lt-leb instLimit (length (s .insts)) (rw insts-is at h), eq-eqb _ _ k, lt-leb labelRecords (length (s .labels)) (rw labels-is at l), snoc-last)
-        (ap (λ (x : Counts). Read x i) (label-kept z))
+        simp (read-is, lt-leb instLimit (length (s .insts)) (rw insts-is at h), eq-eqb _ _ k, lt-leb labelRecords (length (s .labels)) (rw labels-is at l))
+        (ap Read (label-kept z))
 
--- the bounds
-module _ (image : List ℕ) (c : Counts) (i : Inst) (size : ℕ) (f : fromBytes image (c .at) ≡ reads i size) (h : c .insts < instLimit) where
-  pub further-plain : (i .typ ≡ 21 → ⊥) → Further (length image) c (counted c (i .typ) size) i
-  further-plain k =
-      let r = read-in image (c .at) i size f in
-      record { inside = r .inside; moves = omega (arith, r .moves); one-more = refl; insts-fit = omega arith; labels-fit = λ b. absurd (k (eqb-true _ _ b)) }
-
-  pub further-label : (b : _) → c .labels < labelRecords → Further (length image) c (labelled (counted c (i .typ) size) b (c .insts)) i
-  further-label b l =
-      let r = read-in image (c .at) i size f in
-      record { inside = r .inside; moves = omega (arith, r .moves); one-more = refl; insts-fit = omega arith; labels-fit = λ _. l }
+-- the bounds of what is kept then
+pub further-at : (image : List ℕ) (c : Counts) (i : Inst) (size : ℕ) → fromBytes image (c .at) ≡ reads i size → c .insts < instLimit → (d : Counts) → d .at ≡ c .at + size
+    → d .insts ≡ c .insts + 1 → Further (length image) c d
+further-at image c i size f h d a n =
+    let r = read-in image (c .at) i size f in
+    let k = r .inside in
+    record { inside = omega (arith, k); moves = omega (arith, r .moves); one-more = n; insts-fit = omega arith }

@@ -1,55 +1,53 @@
--- A load under way whose label table is lent as bytes. Assumes nothing.
-use Prim.Native.Nat.{ℕ, _/_, _≤_}
+-- The pass that links, where the label table is lent as bytes. Assumes nothing.
+use Prim.Native.Nat.{ℕ, _/_, _≤_, _<_}
 use mathlib.Core.Path.{_≡_, refl, _∙_}
-use mathlib.Core.Bool.{true, false, cond}
+use mathlib.Core.Bool.{true, false}
 use mathlib.Core.List.{List}
 use native.Mathlib.Omega.{arith}
-use lib.ListN.{length}
+use lib.ListN.{length, take, drop}
 use Rattle.machine.specs.Load.{Load, rejects, accepts}
-use Rattle.tables.specs.Tables.{inst, label, instsOf, labelsOf, numbersOf, bytesOf, labelBytes}
+use Rattle.tables.specs.Tables.{label, instsOf, labelsOf, numbersOf, bytesOf, labelBytes}
 use Rattle.tables.proofs.Laws.{length-records}
-use Rattle.loader.specs.declared.Pending.{Pending}
+use Rattle.loader.specs.declared.Linking.{Linking}
 use Rattle.loader.specs.declared.Loading.{Loading}
-use Rattle.loader.specs.Loading.{refuses, starts, freshAt, means, labelsLeft, loadOf, FromBinary}
-use Rattle.loader.specs.Filling.{linkedAt, begunAt, Fills}
-use Rattle.loader.proofs.Loads.{load-scans}
+use Rattle.loader.specs.Loading.{means, instsLeft, labelsLeft, loadOf, LoadInsts, FromBinary}
+use Rattle.loader.specs.Linking.{headLink, nextLink, linkedAt}
 use Rattle.loader.proofs.Stores.{label-more}
-use Rattle.loader.proofs.Underway as load
+use Rattle.loader.proofs.Passing as pass
 
 module _ (image insts₀ labels₀ : List ℕ) where
   abbrev given : Load
   given = loadOf image insts₀ labels₀
 
-  abbrev room : ℕ
-  room = length labels₀ / 32
+  abbrev pub Underway : Linking → List ℕ → Type 0
+  Underway = pass.Underway image insts₀ (labelsOf labels₀) labels₀ labelBytes
 
-  abbrev pub Underway : Pending → List ℕ → List ℕ → Type 0
-  Underway = load.Underway image insts₀ labels₀ labelBytes room given
-
-  abbrev pub Fits : Pending → Type 0
-  Fits = load.Fits image insts₀ labels₀ labelBytes room given
-
-  pub underway-begins : (p : Pending) → (length (instsOf insts₀) ≡ length insts₀ / 32 → length (labelsOf labels₀) ≡ room → p ≡ begunAt given) → Fits p
-      → Underway p insts₀ labels₀
+  pub underway-begins : (r : Loading) (insts : List ℕ) → LoadInsts given insts₀ r insts → (p : Linking) → p ≡ headLink (means r) → Underway p labels₀
   unfolding numbersOf bytesOf
-  underway-begins p b f =
-      load.underway-begins image insts₀ labels₀ labelBytes room given p refl (load-scans image (instsOf insts₀) (labelsOf labels₀)) (b (length-records inst insts₀) (length-records label labels₀)) f
+  underway-begins r insts f p e = pass.underway-begins image insts₀ (labelsOf labels₀) labels₀ labelBytes r (f .answers) p e refl
 
-  pub underway-on : (p q : Pending) (insts labels insts′ labels′ : List ℕ) → p .on ≡ true → Underway p insts labels
-      → labels′ ≡ linkedAt labels (p .index) (p .start) (p .len) (p .target) → Fills image insts p q insts′ → length insts′ ≡ length insts → length labels′ ≡ length labels
-      → Underway q insts′ labels′
-  underway-on p q insts labels insts′ labels′ o u e f i j =
-      let k = u .fits o in
-      let z : 32 ≤ length labels₀ = omega (arith, k .1) in
-      load.underway-on image insts₀ labels₀ labelBytes room given p q insts labels insts′ labels′ o u (λ ls n h. e ∙ label-more labels₀ labels p ls z n h) f i j
+  module _ (p : Linking) (labels : List ℕ) (u : Underway p labels) (on : p .on ≡ true) where
+    pub index-inside : p .index < length labels / 32
+    index-inside =
+        let a = pass.index-inside image insts₀ (labelsOf labels₀) labels₀ labelBytes p labels u on in
+        let b = length-records label labels₀ in
+        let c = u .labels-long in
+        omega (arith, a, b, c)
 
-  leaves-are : (x : Load) → load.leaves image insts₀ labels₀ labelBytes room given x ≡ labelsLeft x labels₀
-  unfolding load.leaves labelsLeft
+    pub underway-on : (insts : List ℕ) → insts ≡ instsLeft given insts₀ → (q : Linking) (labels′ : List ℕ) → labels′ ≡ linkedAt labels p
+        → q ≡ nextLink p (p .passed) (drop (p .passed) (take (p .count) (instsOf insts))) → length labels′ ≡ length labels → Underway q labels′
+    underway-on insts i q labels′ e f j =
+        let a = index-inside in
+        let b = u .labels-long in
+        let z : 32 ≤ length labels₀ = omega (arith, a, b) in
+        pass.underway-on image insts₀ (labelsOf labels₀) labels₀ labelBytes p labels u on insts i q labels′ (λ ls n h. e ∙ label-more labels₀ labels p ls z n h) f j
+
+  leaves-are : (x : Load) → pass.leaves image insts₀ (labelsOf labels₀) labels₀ labelBytes x ≡ labelsLeft x labels₀
+  unfolding pass.leaves labelsLeft
   leaves-are (rejects n) = refl
   leaves-are (accepts l) = refl
 
-  pub underway-ends : (p : Pending) (insts labels : List ℕ) (r : Loading) → p .on ≡ false → Underway p insts labels
-      → means r ≡ cond (p .accepted) (starts (freshAt (p .ip)) (p .count)) (refuses (p .number)) → FromBinary image insts₀ labels₀ r insts labels
-  underway-ends p insts labels r o u e =
-      let k = load.underway-ends image insts₀ labels₀ labelBytes room given p insts labels r o u e in
-      record { answers = k .answers; insts-are = k .insts-are; labels-are = k .labels-are ∙ leaves-are given }
+  pub underway-ends : (p : Linking) (labels insts : List ℕ) (r : Loading) → p .on ≡ false → Underway p labels → LoadInsts given insts₀ r insts → FromBinary image insts₀ labels₀ r insts labels
+  underway-ends p labels insts r o u f =
+      let k = pass.underway-ends image insts₀ (labelsOf labels₀) labels₀ labelBytes p labels o u in
+      record { answers = f .answers; insts-are = f .insts-are; labels-are = k ∙ leaves-are given }

@@ -1,11 +1,12 @@
 pub mod Left
-mod Names
 mod Scans
 mod Instructions
 mod Rests
 mod Ends
-pub mod Loads
+mod Loads
 mod Stores
 mod Fillings
-pub mod Underway
+mod Links
+mod Seeks
+pub mod Passing
 mod LentBytes

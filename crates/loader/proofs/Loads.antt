@@ -1,6 +1,6 @@
 -- What the definition of a load says of its answers. Assumes nothing.
 use Prim.Native.Nat.{ℕ, _<_, _≤_}
-use mathlib.Core.Path.{_≡_, refl, ap}
+use mathlib.Core.Path.{_≡_, refl}
 use mathlib.Core.Bool.{_||_}
 use mathlib.Core.List.{List}
 use native.Mathlib.Omega.{arith}
@@ -8,15 +8,14 @@ use lib.Dec.{ltb}
 use lib.ListN.{length}
 use borrow.Author.Tests.{lt-ltb, le-ltb, ltb-false}
 use Rattle.inst.specs.declared.Inst.{Inst}
-use Rattle.inst.proofs.Laws.{by-test}
+use Rattle.inst.proofs.Laws.{by-test, or-left, or-right}
 use Rattle.machine.specs.Limits.{imageLimit, instLimit, labelRecords}
 use Rattle.machine.specs.declared.Label.{Label}
-use Rattle.machine.specs.declared.Machine.{Machine}
-use Rattle.machine.specs.Load.{Scan, Scanned, stops, goes, begin, scan, Entry, noEntry, entry, anyNative, closed, Loaded, Load, rejects, accepts, checked, entered, finished, loads, load, fresh, countOf}
+use Rattle.machine.specs.Load.{Scan, Scanned, stops, goes, begin, Entry, noEntry, entry, anyNative, closed, Loaded, Load, rejects, accepts, checked, entered, finished, loads, load, countOf}
 use Rattle.loader.specs.declared.Loading.the-variants.{Refused, Accepted}
-use Rattle.loader.specs.Loading.{answerOf, freshAt, means}
+use Rattle.loader.specs.Loading.{answerOf, means, instsLeft, Accepts, LoadInsts}
 use Rattle.loader.specs.Reading.{entryOf}
-use Rattle.loader.specs.Filling.{Rest}
+use Rattle.loader.proofs.Rests.{Rest}
 
 -- no refusal is an acceptance
 pub never-both : {A : Type 0} (n : ℕ) (l : Loaded) → rejects n ≡ accepts l → A
@@ -42,18 +41,18 @@ unfolding means answerOf
 refused-load n (rejects m) e = cc
 refused-load n (accepts l) e = cc
 
-pub record IsAccepted (ip count : ℕ) (x : Load) : Type 0 where
-  pub loaded : Loaded
-  pub is : x ≡ accepts loaded
-  pub ip-is : ip ≡ loaded .ip
-  pub count-is : count ≡ countOf loaded
+accepted-at : (ip count : ℕ) (image : List ℕ) (x : Load) → loads image ≡ x → means (Accepted ip count) ≡ answerOf x → Accepts image count
+unfolding means answerOf
+accepted-at ip count image (rejects n) g e = absurd (let z : _≡_ {A = ℕ} 0 1 = cc in omega arith)
+accepted-at ip count image (accepts l) g e = record { loaded = l; is = g; count-is = cc }
 
-pub accepted-load : (ip count : ℕ) (x : Load) → means (Accepted ip count) ≡ answerOf x → IsAccepted ip count x
-unfolding means answerOf freshAt fresh
-accepted-load ip count (rejects n) e = absurd (let z : _≡_ {A = ℕ} 0 1 = cc in omega arith)
-accepted-load ip count (accepts l) e =
-    let m : freshAt ip ≡ fresh l = cc in
-    record { loaded = l; is = refl; ip-is = ap (λ (x : Machine). x .ip) m; count-is = cc }
+pub accepted-load : (ip count : ℕ) (image : List ℕ) → means (Accepted ip count) ≡ answerOf (loads image) → Accepts image count
+accepted-load ip count image e = accepted-at ip count image (loads image) refl e
+
+-- a refusal writes nothing
+pub refused-there : (x : Load) (n : ℕ) (insts : List ℕ) → x ≡ rejects n → LoadInsts x insts (Refused n) insts
+unfolding means answerOf instsLeft
+refused-there x n insts e = rw e (record { answers = refl; insts-are = refl })
 
 -- an accepted scan
 pub record Closed (s : Scan) (l : Loaded) : Type 0 where
@@ -78,7 +77,7 @@ module _ (image : List ℕ) (l : Loaded) where
   unfolding finished
   is-closed s q = entered-closed s (entryOf image s) q
 
-  not-finished : (n : ℕ) → finished image (stops n) ≡ accepts l → rejects n ≡ accepts l
+  pub not-finished : (n : ℕ) → finished image (stops n) ≡ accepts l → rejects n ≡ accepts l
   unfolding finished
   not-finished n q = q
 
@@ -96,9 +95,20 @@ module _ (image : List ℕ) (l : Loaded) where
   pub accepted-fits : loads image ≡ accepts l → countOf l ≤ instLimit
   accepted-fits e = let r = accepted-rest e in scanned-fits _ (r .gives)
 
--- an accepted load's scan, whatever tables are lent
-pub load-scans : (image : List ℕ) (is : List Inst) (ls : List Label) (l : Loaded) → load image is ls ≡ accepts l → Rest image begin (accepts l)
+-- an accepted load: the tables have room, and the image is accepted
+pub record AcceptedLoad (image : List ℕ) (insts : List Inst) (labels : List Label) (l : Loaded) : Type 0 where
+  pub insts-room : instLimit ≤ length insts
+  pub labels-room : labelRecords ≤ length labels
+  pub is : loads image ≡ accepts l
+  pub count-fits : countOf l ≤ instLimit
+
+pub load-accepts : (image : List ℕ) (is : List Inst) (ls : List Label) (l : Loaded) → load image is ls ≡ accepts l → AcceptedLoad image is ls l
 unfolding load
-load-scans image is ls l =
-    by-test (λ x. x ≡ accepts l → Rest image begin (accepts l)) (ltb (length is) instLimit || ltb (length ls) labelRecords) _ _ (λ _. never-both 10 l)
-    (λ _. accepted-rest image l)
+load-accepts image is ls l =
+    by-test (λ x. x ≡ accepts l → AcceptedLoad image is ls l) (ltb (length is) instLimit || ltb (length ls) labelRecords) _ _ (λ _. never-both 10 l)
+    (λ h e. record {
+      insts-room = ltb-false _ _ (or-left (ltb (length is) instLimit) (ltb (length ls) labelRecords) h);
+      labels-room = ltb-false _ _ (or-right (ltb (length is) instLimit) (ltb (length ls) labelRecords) h);
+      is = e;
+      count-fits = accepted-fits image l e;
+    })

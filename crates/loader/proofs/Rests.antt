@@ -5,8 +5,8 @@ use mathlib.Core.Bool.{Bool, true, false, cond}
 use mathlib.Core.List.{List, [], _∷_, _++_}
 use native.Mathlib.Omega.{arith}
 use lib.Dec.{leb}
-use lib.ListN.{length}
-use borrow.Author.Tests.{lt-ltb, le-ltb}
+use lib.ListN.{length, length-append}
+use borrow.Author.Tests.{lt-ltb, le-ltb, leb-false}
 use Rattle.inst.specs.declared.Inst.{Inst}
 use Rattle.inst.proofs.Laws.{by-test}
 use Rattle.inst_decode.specs.Decode.{Answer, refused, reads, fromBytes}
@@ -16,20 +16,32 @@ use Rattle.machine.specs.Load.{isLabel, linked, Scan, Scanned, stops, goes, beg
 use Rattle.loader.specs.declared.Counts.{Counts}
 use Rattle.loader.specs.declared.Next.{Next}
 use Rattle.loader.specs.declared.Next.the-variants.{Refused, Read}
-use Rattle.loader.specs.Reading.{countsOf, lastInst, nextOf, Further, Ahead}
-use Rattle.loader.specs.Filling.{Rest}
-use Rattle.loader.proofs.Scans.{snoc-last}
+use Rattle.loader.specs.Reading.{countsOf, nextOf, Further, Ahead}
+use Rattle.loader.proofs.Scans.{lastInst, snoc-last}
+
+-- the image from s on gives l
+pub record Rest (image : List ℕ) (s : Scan) (l : Load) : Type 0 where
+  pub fuel : ℕ
+  pub enough : length image ≤ s .at + fuel
+  pub gives : finished image (scan fuel image s) ≡ l
 
 -- one instruction more
 pub record Grown (s to : Scan) (i : Inst) : Type 0 where
   pub insts-are : to .insts ≡ s .insts ++ (i ∷ [])
   pub labels-are : to .labels ≡ cond (isLabel i) (linked i (length (s .insts)) (s .labels)) (s .labels)
+  pub labels-fit : length (s .labels) ≤ labelRecords → length (to .labels) ≤ labelRecords
 
 goes-where : (s to : Scan) (i : Inst) (size : ℕ) (ls : List Label) → ls ≡ cond (isLabel i) (linked i (length (s .insts)) (s .labels)) (s .labels)
-    → goes (record { at = s .at + size; insts = s .insts ++ (i ∷ []); labels = ls }) ≡ goes to → Grown s to (lastInst (to .insts))
-goes-where s to i size ls e q =
+    → (length (s .labels) ≤ labelRecords → length ls ≤ labelRecords) → goes (record { at = s .at + size; insts = s .insts ++ (i ∷ []); labels = ls }) ≡ goes to
+    → Grown s to (lastInst (to .insts))
+goes-where s to i size ls e f q =
     let z : record { at = s .at + size; insts = s .insts ++ (i ∷ []); labels = ls } ≡ to = cc in
-    subst (λ (x : Scan). Grown s x (lastInst (x .insts))) z (rw snoc-last (record { insts-are = refl; labels-are = e }))
+    subst (λ (x : Scan). Grown s x (lastInst (x .insts))) z (rw snoc-last (record { insts-are = refl; labels-are = e; labels-fit = f }))
+
+linked-long : (i : Inst) (n : ℕ) (ls : List Label) → length (linked i n ls) ≤ length ls + 1
+unfolding linked
+linked-long i n [] = omega arith
+linked-long i n (h ∷ ls) = let e = length-append ls (record { start = i .start; len = i .len; target = n; next = h .next } ∷ []) in omega (arith, e)
 
 pub grown : (s to : Scan) (a : Answer) → scanOne s a ≡ goes to → Grown s to (lastInst (to .insts))
 unfolding scanOne
@@ -40,13 +52,13 @@ grown s to (reads i size) q =
     (λ _. by-test (λ x. x ≡ goes to → Grown s to (lastInst (to .insts))) (isLabel i) _ _
     (λ e. by-test (λ x. x ≡ goes to → Grown s to (lastInst (to .insts))) (leb labelRecords (length (s .labels))) _ _
     (λ _ r. absurd (let z : _≡_ {A = ℕ} 0 1 = cc in omega arith))
-    (λ _. goes-where s to i size _ (rw e)))
-    (λ e. goes-where s to i size _ (rw e)))
+    (λ k. goes-where s to i size _ (rw e) (λ _. let n = linked-long i (length (s .insts)) (s .labels) in let m = leb-false labelRecords (length (s .labels)) k in omega (arith, n, m))))
+    (λ e. goes-where s to i size _ (rw e) (λ f. f)))
     q
 
-pub further : (size : ℕ) (c : Counts) (r : Next) (d : Counts) (i : Inst) → Ahead size c r → r ≡ Read d i → Further size c d i
+pub further : (size : ℕ) (c : Counts) (r : Next) (d : Counts) → Ahead size c r → r ≡ Read d → Further size c d
 unfolding Ahead
-further size c r d i a e = rw e at a
+further size c r d a e = rw e at a
 
 -- the label table keeps its head
 head-kept : (b : Bool) (i : Inst) (n : ℕ) (ls : List Label) → 0 < length ls → 0 < length (cond b (linked i n ls) ls)
@@ -57,19 +69,18 @@ head-kept false i n ls h = h
 
 module _ (image : List ℕ) where
   -- the code's answer says where the scan went
-  pub record Went (s : Scan) (d : Counts) (i : Inst) : Type 0 where
+  pub record Went (s : Scan) (d : Counts) : Type 0 where
     pub to : Scan
     pub goes-to : scanOne s (fromBytes image (s .at)) ≡ goes to
     pub counts-are : d ≡ countsOf image to
-    pub inst-is : i ≡ lastInst (to .insts)
 
-  went′ : (s : Scan) (d : Counts) (i : Inst) (x : Scanned) → scanOne s (fromBytes image (s .at)) ≡ x → Read d i ≡ nextOf image x → Went s d i
+  went′ : (s : Scan) (d : Counts) (x : Scanned) → scanOne s (fromBytes image (s .at)) ≡ x → Read d ≡ nextOf image x → Went s d
   unfolding nextOf
-  went′ s d i (stops n) e q = absurd (let z : _≡_ {A = ℕ} 0 1 = cc in omega arith)
-  went′ s d i (goes t) e q = record { to = t; goes-to = e; counts-are = cc; inst-is = cc }
+  went′ s d (stops n) e q = absurd (let z : _≡_ {A = ℕ} 0 1 = cc in omega arith)
+  went′ s d (goes t) e q = record { to = t; goes-to = e; counts-are = cc }
 
-  pub went : (s : Scan) (d : Counts) (i : Inst) → Read d i ≡ nextOf image (scanOne s (fromBytes image (s .at))) → Went s d i
-  went s d i q = went′ s d i _ refl q
+  went : (s : Scan) (d : Counts) → Read d ≡ nextOf image (scanOne s (fromBytes image (s .at))) → Went s d
+  went s d q = went′ s d _ refl q
 
   pub stopped : (n : ℕ) (x : Scanned) → Refused n ≡ nextOf image x → x ≡ stops n
   unfolding nextOf
@@ -106,13 +117,12 @@ module _ (image : List ℕ) where
   pub rest-begin : Rest image begin (finished image (scan (length image) image begin))
   rest-begin = record { fuel = length image; enough = omega arith; gives = refl }
 
-  -- a step of either pass: c was kept of s, the code read i, and keeps d
-  pub record Passes (l : Load) (c d : Counts) (s : Scan) (i : Inst) : Type 0 where
+  -- a step of the first pass: c was kept of s, and the code keeps d
+  pub record Passes (l : Load) (c d : Counts) (s : Scan) : Type 0 where
     pub to : Scan
     pub counts-are : d ≡ countsOf image to
     pub has-head : 0 < length (to .labels)
     pub rest : Rest image to l
-    pub grows : Grown s to i
 
   at-of : (c : Counts) (s : Scan) → c ≡ countsOf image s → c .at ≡ s .at
   unfolding countsOf
@@ -122,17 +132,17 @@ module _ (image : List ℕ) where
     inside : s .at < length image
     inside = rw (at-of c s e) at h
 
-    pub passes : (d : Counts) (i : Inst) → c .at < d .at → Read d i ≡ nextOf image (scanOne s (fromBytes image (s .at))) → Passes l c d s i
-    passes d i m q =
-        let w = went s d i q in
-        let g = rw (← (w .inst-is)) at (grown s (w .to) _ (w .goes-to)) in
+    pub passes : (d : Counts) → c .at < d .at → Read d ≡ nextOf image (scanOne s (fromBytes image (s .at))) → Passes l c d s
+    passes d m q =
+        let w = went s d q in
+        let i = lastInst (w .to .insts) in
+        let g = grown s (w .to) _ (w .goes-to) in
         let k : s .at < w .to .at = rw (at-of c s e, at-of d (w .to) (w .counts-are)) at m in
         record {
           to = w .to;
           counts-are = w .counts-are;
-          has-head = rw (g .labels-are) (head-kept (isLabel i) i _ (s .labels) z);
+          has-head = rw (g .labels-are) (head-kept (isLabel i) i (length (s .insts)) (s .labels) z);
           rest = rest-next s l inside (w .to) r (w .goes-to) k;
-          grows = g;
         }
 
     pub refuses-there : (n : ℕ) → Refused n ≡ nextOf image (scanOne s (fromBytes image (s .at))) → rejects n ≡ l
@@ -157,10 +167,10 @@ module _ (image : List ℕ) where
       record { reached = begin; counts-are = e; has-head = omega arith; rest = rest-begin image; fit = omega arith }
 
   module _ (c : Counts) (k : Checking image c) (h : c .at < length image) where
-    pub checking-next : (d : Counts) (i : Inst) → Further (length image) c d i → Read d i ≡ nextOf image (scanOne (k .reached) (fromBytes image (k .reached .at)))
+    pub checking-next : (d : Counts) → Further (length image) c d → Read d ≡ nextOf image (scanOne (k .reached) (fromBytes image (k .reached .at)))
         → Checking image d
-    checking-next d i f q =
-        let p = passes image _ c (k .reached) (k .counts-are) (k .has-head) (k .rest) h d i (f .moves) q in
+    checking-next d f q =
+        let p = passes image _ c (k .reached) (k .counts-are) (k .has-head) (k .rest) h d (f .moves) q in
         record { reached = p .to; counts-are = p .counts-are; has-head = p .has-head; rest = p .rest; fit = f .insts-fit }
 
   pub loads-is : length image ≤ imageLimit → loads image ≡ finished image (scan (length image) image begin)

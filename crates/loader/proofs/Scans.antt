@@ -7,10 +7,10 @@ use native.Mathlib.Nat.{suc-add}
 use native.Mathlib.Omega.{arith}
 use lib.ListN.{length, length-append}
 use Rattle.inst.specs.declared.Inst.{Inst}
-use Rattle.inst.specs.Records.{part}
+use Rattle.inst.specs.Records.{part, same}
 use Rattle.machine.specs.declared.Label.{Label}
-use Rattle.machine.specs.Load.{isNative, isHalt, same, nameOf, startName, linked, Scan, Entry, noEntry, entry, lastOf, anyNative, lastIsHalt}
-use Rattle.loader.specs.Reading.{isFound, pointer, countsOf, counted, labelled, lastInst}
+use Rattle.machine.specs.Load.{halt, isNative, isHalt, nameOf, startName, linked, Scan, Entry, noEntry, entry, lastOf, anyNative, lastIsHalt}
+use Rattle.loader.specs.Reading.{isFound, pointer, countsOf, counted, labelled}
 
 or-assoc : (a b c : Bool) → (a || (b || c)) ≡ ((a || b) || c)
 or-assoc true b c = refl
@@ -19,6 +19,12 @@ or-assoc false b c = refl
 -- lists that are one longer
 snoc-long : {A : Type 0} (xs : List A) (x : A) → length (xs ++ (x ∷ [])) ≡ length xs + 1
 snoc-long xs x = length-append xs (x ∷ [])
+
+-- the last instruction of those read
+unfoldable pub lastInst : List Inst → Inst
+lastInst [] = halt
+lastInst (i ∷ []) = i
+lastInst (i ∷ j ∷ is) = lastInst (j ∷ is)
 
 pub snoc-last : (is : List Inst) (i : Inst) → lastInst (is ++ (i ∷ [])) ≡ i
 unfolding lastInst

@@ -11,13 +11,14 @@ use borrow.Author.Tests.{lt-ltb, le-ltb}
 use Rattle.inst.specs.declared.Inst.{Inst}
 use Rattle.inst.proofs.Laws.{sets-more}
 use Rattle.machine.specs.declared.Label.{Label}
-use Rattle.machine.specs.Load.{halt, head, linked, lastIsHalt, closed}
+use Rattle.machine.specs.Load.{halt, linked, lastIsHalt, closed}
 use Rattle.tables.specs.Tables.{numbersIn, numberAt, bytesOf, numbersOf, instNumbers, labelNumbers, instBytes, labelBytes}
 use Rattle.tables.proofs.Numbers.{labels-append, sets-rest}
 use Rattle.tables.proofs.Bytes.{length-numbers-in, length-bytes, bytes-append, numbers-sets, sets-over}
 use Rattle.tables.proofs.Laws.{insts-append, length-insts, length-labels}
-use Rattle.loader.specs.declared.Pending.{Pending}
-use Rattle.loader.specs.Filling.{linkedAt, linkedOn}
+use Rattle.loader.specs.declared.Linking.{Linking}
+use Rattle.loader.specs.Linking.{linkedAt}
+use Rattle.loader.proofs.Passing.{linkedOn}
 
 -- a table keeps its length
 pub put-long : (ys ys′ vs : List ℕ) (i : ℕ) → ys′ ≡ sets ys i vs → length ys′ ≡ length ys
@@ -69,8 +70,8 @@ next-there xs vs a b c d h =
     ap (λ (l : List ℕ). getD l 3 0) (numbers-sets (a ∷ b ∷ c ∷ d ∷ vs) xs 0) ∙ fourth (numbersIn xs) vs a b c d (omega arith)
 
 -- a label more, or the head
-pub label-more : (xs ys : List ℕ) (p : Pending) (ls : List Label) → 32 ≤ length xs → p .index ≡ length ls → ys ≡ sets xs 0 (labelBytes ls)
-    → linkedAt ys (p .index) (p .start) (p .len) (p .target) ≡ sets xs 0 (labelBytes (linkedOn p ls))
+pub label-more : (xs ys : List ℕ) (p : Linking) (ls : List Label) → 32 ≤ length xs → p .index ≡ length ls → ys ≡ sets xs 0 (labelBytes ls)
+    → linkedAt ys p ≡ sets xs 0 (labelBytes (linkedOn p ls))
 unfolding linkedAt linkedOn linked numbersOf bytesOf
 label-more xs ys p [] z k e = rw (k, e) (head-over xs [] (p .start) (p .len) (p .target) (numberAt xs 3) 0)
 label-more xs ys p (h ∷ ls) z k e =

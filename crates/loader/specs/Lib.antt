@@ -1,3 +1,3 @@
 pub mod Loading
 pub mod Reading
-pub mod Filling
+pub mod Linking

@@ -4,7 +4,7 @@ use mathlib.Core.Path.{_≡_}
 use mathlib.Core.List.{List, []}
 use lib.Seq.{sets}
 use Rattle.machine.specs.declared.Machine.{Machine}
-use Rattle.machine.specs.Load.{Load, rejects, accepts, load, fresh, countOf}
+use Rattle.machine.specs.Load.{Loaded, Load, rejects, accepts, loads, load, fresh, countOf}
 use Rattle.tables.specs.Tables.{instsOf, labelsOf, instBytes, labelBytes}
 use Rattle.loader.specs.declared.Loading.{Loading}
 use Rattle.loader.specs.declared.Loading.the-variants.{Refused, Accepted}
@@ -27,10 +27,6 @@ unfoldable pub means : Loading → Answer
 means (Refused n) = refuses n
 means (Accepted ip count) = starts (freshAt ip) count
 
-unfoldable pub numberIn : Answer → ℕ
-numberIn (refuses n) = n
-numberIn (starts m count) = 0
-
 -- a lent table's bytes after the call: a refusal writes nothing; the records from the front on, what is past them as it was
 unfoldable pub instsLeft : Load → List ℕ → List ℕ
 instsLeft (rejects n) insts = insts
@@ -39,6 +35,17 @@ instsLeft (accepts l) insts = sets insts 0 (instBytes (l .insts))
 unfoldable pub labelsLeft : Load → List ℕ → List ℕ
 labelsLeft (rejects n) labels = labels
 labelsLeft (accepts l) labels = sets labels 0 (labelBytes (l .labels))
+
+-- an image that is accepted, with this count
+pub record Accepts (image : List ℕ) (count : ℕ) : Type 0 where
+  pub loaded : Loaded
+  pub is : loads image ≡ accepts loaded
+  pub count-is : count ≡ countOf loaded
+
+-- what a load answers, and leaves in the instruction table
+pub record LoadInsts (given : Load) (insts : List ℕ) (r : Loading) (insts′ : List ℕ) : Type 0 where
+  pub answers : means r ≡ answerOf given
+  pub insts-are : insts′ ≡ instsLeft given insts
 
 -- the load of document 01 with tables that are lent as bytes
 abbrev pub loadOf : List ℕ → List ℕ → List ℕ → Load

@@ -7,8 +7,8 @@ use lib.Dec.{eqb}
 use lib.ListN.{length, drop}
 use Rattle.inst.specs.declared.Inst.{Inst}
 use Rattle.inst_decode.specs.Decode.{Answer, refused, reads}
-use Rattle.machine.specs.Limits.{instLimit, labelRecords}
-use Rattle.machine.specs.Load.{isLabel, halt, startName, Scan, Scanned, stops, goes, Entry, noEntry, entry, lastOf, anyNative, lastIsHalt}
+use Rattle.machine.specs.Limits.{instLimit}
+use Rattle.machine.specs.Load.{halt, startName, Scan, Scanned, stops, goes, Entry, noEntry, entry, lastOf, anyNative, lastIsHalt}
 use Rattle.loader.specs.declared.Counts.{Counts}
 use Rattle.loader.specs.declared.Next.{Next}
 use Rattle.loader.specs.declared.Next.the-variants.{Refused, Read}
@@ -68,24 +68,18 @@ labelled c start index =
       halt = c .halt;
     }
 
-unfoldable pub lastInst : List Inst → Inst
-lastInst [] = halt
-lastInst (i ∷ []) = i
-lastInst (i ∷ j ∷ is) = lastInst (j ∷ is)
-
 -- the code's answer for one instruction more
 unfoldable pub nextOf : List ℕ → Scanned → Next
 nextOf image (stops n) = Refused n
-nextOf image (goes s) = Read (countsOf image s) (lastInst (s .insts))
+nextOf image (goes s) = Read (countsOf image s)
 
 -- the bounds that hold whatever was kept before: `size` is the image's
-pub record Further (size : ℕ) (c d : Counts) (i : Inst) : Type 0 where
+pub record Further (size : ℕ) (c d : Counts) : Type 0 where
   pub inside : d .at ≤ size
   pub moves : c .at < d .at
   pub one-more : d .insts ≡ c .insts + 1
   pub insts-fit : d .insts ≤ instLimit
-  pub labels-fit : isLabel i ≡ true → c .labels < labelRecords
 
 unfoldable pub Ahead : ℕ → Counts → Next → Type 0
 Ahead size c (Refused n) = Unit {0}
-Ahead size c (Read d i) = Further size c d i
+Ahead size c (Read d) = Further size c d

@@ -25,7 +25,7 @@ fn closed_count(insts: usize, halt: bool) -> usize
 }
 
 // After the last byte: 7; HALT is appended unless the last instruction is HALT, 5 again; 8.
-fn judge(c: Counts) -> Loading
+fn finish(c: Counts) -> Loading
     requires { ⌜ c .insts ≤ instLimit ⌝ }
     ensures { λ r. ⌜ ((image : List ℕ) (s : Scan) → c ≡ countsOf image s → means r ≡ answerOf (finished image (goes s))) ⌝ }
 {
@@ -39,7 +39,26 @@ fn judge(c: Counts) -> Loading
     if c.native {
         return Loading::Refused(8);
     }
-    Loading::Accepted(c.ip, count)
+    Loading::Accepted {
+        ip: c.ip,
+        count: count,
+    }
+}
+
+// The same numbers, each by itself: copied as a whole out of an answer they go through memory, and the processor waits for it
+// (12 instead of 3 ns an instruction).
+fn anew(c: Counts) -> Counts
+    ensures { λ r. ⌜ r ≡ c ⌝ }
+{
+    Counts {
+        at: c.at,
+        insts: c.insts,
+        labels: c.labels,
+        found: c.found,
+        ip: c.ip,
+        native: c.native,
+        halt: c.halt,
+    }
 }
 
 // What an image gives, whatever tables are lent.
@@ -57,10 +76,10 @@ pub fn check(image: &[u8]) -> Loading
             Next::Refused(n) => {
                 return Loading::Refused(n);
             }
-            Next::Read(d, _) => {
-                c = d;
+            Next::Read(d) => {
+                c = anew(d);
             }
         }
     }
-    judge(c)
+    finish(c)
 }

@@ -1,23 +1,22 @@
 // The loader (Mm::from_binary of mm's mm.rs): an image read into two lent tables.
-// A first pass without a write finds every refusal, the pointer and the count (checking); a second one fills (filling).
-// Both read by one function (reading).
+// A first pass without a write finds every refusal, the pointer and the count (checking); a second one fills the instruction
+// table (filling), both by one function that reads (reading); a third, over the filled table, links the labels (labels).
 ghost use mathlib.Core.Path.{_≡_};
 ghost use Rattle.loader.specs.Loading.{freshAt, FromBinary};
 
 mod checking;
 mod filling;
+mod labels;
 mod reading;
 
-pub use filling::answer;
-pub use filling::begin;
-pub use filling::fill;
-use filling::link;
-use inst::Inst;
+pub use filling::load_insts;
+pub use labels::head_link;
+use labels::link;
+pub use labels::next_link;
 use machine::CALL_LIMIT;
 use machine::MEMORY_SIZE;
 use machine::Machine;
 use machine::STACK_LIMIT;
-pub use reading::same_name;
 use tables::RECORD;
 
 // The limits of document 01: an image's bytes, its instructions, and the records of a label table.
@@ -27,18 +26,11 @@ pub const INST_LIMIT: usize = 4096;
 
 pub const LABEL_RECORDS: usize = 513;
 
-// First bytes that the loader looks for.
-const LABEL: u64 = 21;
-
-const NATIVE: u64 = 37;
-
-const HALT: u64 = 69;
-
 // What a load answers: a number, or the pointer and the count. `fresh` makes the machine of the pointer: an enum that holds
 // the machine's arrays can't be proved from its code.
 pub enum Loading {
     Refused(u8),
-    Accepted(usize, usize),
+    Accepted { ip: usize, count: usize },
 }
 
 // What is kept of an image that was read so far: the next byte, the instructions, the label records with their head, whether
@@ -53,24 +45,22 @@ pub struct Counts {
     pub halt: bool,
 }
 
-// One instruction more: a number, or what is kept then and the instruction.
+// One instruction more: a number, or what is kept then.
 pub enum Next {
     Refused(u8),
-    Read(Counts, Inst),
+    Read(Counts),
 }
 
-// A load that is under way: the answer; what was read and filled; and, where it is on, the label record that is to be linked.
-pub struct Pending {
+// Where the linking of the labels stands: whether a label record is to be linked, its index, name and target; and the
+// instructions passed so far, of how many.
+pub struct Linking {
     pub on: bool,
-    pub accepted: bool,
-    pub number: u8,
-    pub ip: usize,
-    pub count: usize,
-    pub counts: Counts,
     pub index: usize,
     pub start: u64,
     pub len: u64,
     pub target: u64,
+    pub passed: usize,
+    pub count: usize,
 }
 
 // The fresh machine: not halted, empty stacks with every slot 0, zero bytes, flags 0.
@@ -93,10 +83,11 @@ pub fn fresh(ip: usize) -> Machine
 pub fn from_binary(image: &[u8], insts: &mut [u8], labels: &mut [u8]) -> Loading
     ensures { λ r. ⌜ FromBinary (now (image .entry)) (now (insts .entry)) (now (labels .entry)) r (now (insts .exit)) (now (labels .exit)) ⌝ }
 {
-    let mut p = begin(image, insts.len() / RECORD, labels.len() / RECORD);
-    while p.on {
-        link(labels, p.index, p.start, p.len, p.target);
-        p = fill(image, insts, p);
+    let loading = load_insts(image, insts, labels.len() / RECORD);
+    let mut l = head_link(loading);
+    while l.on {
+        link(labels, l);
+        l = next_link(insts, l);
     }
-    answer(p)
+    loading
 }

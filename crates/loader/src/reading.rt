@@ -5,20 +5,19 @@ ghost use mathlib.Core.List.{List};
 ghost use Prim.Native.Nat.{ℕ, _+_, _^_, _≤_, _<_};
 ghost use lib.ListN.{length};
 ghost use Rattle.inst.specs.Forms.{formTable};
-ghost use Rattle.inst.specs.Records.{part};
+ghost use Rattle.inst.specs.Records.{part, same};
 ghost use Rattle.inst_decode.specs.Decode.{means, fromBytes};
 ghost use Rattle.machine.specs.Limits.{instLimit, labelRecords};
-ghost use Rattle.machine.specs.Load.{same, startName, Scan, begin, scanOne};
+ghost use Rattle.machine.specs.Load.{startName, Scan, begin, scanOne};
 ghost use Rattle.loader.specs.Reading.{countsOf, nextOf, Ahead};
-ghost use Rattle.loader.specs.Reading as paper;
+ghost use Rattle.loader.specs.Reading as definition;
 use crate::Counts;
-use crate::HALT;
 use crate::INST_LIMIT;
-use crate::LABEL;
 use crate::LABEL_RECORDS;
-use crate::NATIVE;
 use crate::Next;
 use inst::TABLE_SIZE;
+use inst::ops;
+use inst::same_name;
 use inst_decode::Decoded;
 use inst_decode::decode;
 
@@ -39,31 +38,14 @@ pub fn first() -> Counts
 
 // The number of a refusal.
 fn number(d: Decoded) -> u8
-    ensures { λ r. ⌜ r ≡ paper.numberIn (means d) ⌝ }
+    ensures { λ r. ⌜ r ≡ definition.numberIn (means d) ⌝ }
 {
     match d {
         Decoded::Undefined => 2,
         Decoded::PastEnd => 3,
         Decoded::BadName => 4,
-        Decoded::Read(_, _) => 0,
+        Decoded::Read { inst: _, size: _ } => 0,
     }
-}
-
-// Whether two names are the same bytes.
-pub fn same_name(a: &[u8], b: &[u8]) -> bool
-    ensures { λ r. ⌜ r ≡ same (now (a .entry)) (now (b .entry)) ⌝ }
-{
-    if a.len() != b.len() {
-        return false;
-    }
-    let mut i: usize = 0;
-    while i < a.len() {
-        if a[i] != b[i] {
-            return false;
-        }
-        i += 1;
-    }
-    true
 }
 
 // Whether a name of the image is `_start`.
@@ -92,33 +74,26 @@ fn either(a: bool, b: bool) -> bool
 fn counted(c: Counts, typ: u64, size: usize) -> Counts
     requires { ⌜ c .insts < instLimit ⌝ }
     requires { ⌜ c .at + size < 2 ^ 64 ⌝ }
-    ensures { λ r. ⌜ r ≡ paper.counted c typ size ⌝ }
+    ensures { λ r. ⌜ r ≡ definition.counted c typ size ⌝ }
 {
-    Counts {
-        at: c.at + size,
-        insts: c.insts + 1,
-        labels: c.labels,
-        found: c.found,
-        ip: c.ip,
-        native: either(c.native, typ == NATIVE),
-        halt: typ == HALT,
-    }
+    let mut d = c;
+    d.at += size;
+    d.insts += 1;
+    d.native = either(c.native, typ == ops::NATIVE);
+    d.halt = typ == ops::HALT;
+    d
 }
 
 // A label record more. `start` says whether it defines `_start`, with the target `index`.
 fn labelled(c: Counts, start: bool, index: usize) -> Counts
     requires { ⌜ c .labels < labelRecords ⌝ }
-    ensures { λ r. ⌜ r ≡ paper.labelled c start index ⌝ }
+    ensures { λ r. ⌜ r ≡ definition.labelled c start index ⌝ }
 {
-    Counts {
-        at: c.at,
-        insts: c.insts,
-        labels: c.labels + 1,
-        found: either(start, c.found),
-        ip: chosen(start, index, c.ip),
-        native: c.native,
-        halt: c.halt,
-    }
+    let mut d = c;
+    d.labels += 1;
+    d.found = either(start, c.found);
+    d.ip = chosen(start, index, c.ip);
+    d
 }
 
 // One instruction more: 2, 3 or 4, then 5, 6. The answer is that of whatever scan the counts stand for: only the two passes
@@ -129,18 +104,18 @@ pub fn next_inst(forms: &[u8; TABLE_SIZE], image: &[u8], c: Counts) -> Next
     ensures { λ r. ⌜ Ahead (length (now (image .entry))) c r ⌝ }
 {
     let did = decode(forms, image, c.at);
-    let Decoded::Read(i, size) = did else {
+    let Decoded::Read { inst: i, size } = did else {
         return Next::Refused(number(did));
     };
     if c.insts >= INST_LIMIT {
         return Next::Refused(5);
     }
     let d = counted(c, i.typ, size);
-    if i.typ != LABEL {
-        return Next::Read(d, i);
+    if i.typ != ops::LABEL {
+        return Next::Read(d);
     }
     if c.labels >= LABEL_RECORDS {
         return Next::Refused(6);
     }
-    Next::Read(labelled(d, is_start(image, i.start, i.len), c.insts), i)
+    Next::Read(labelled(d, is_start(image, i.start, i.len), c.insts))
 }

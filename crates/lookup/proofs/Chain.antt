@@ -7,10 +7,10 @@ use native.Mathlib.Omega.{arith}
 use lib.Dec.{eqb, ltb}
 use lib.ListN.{length, getD}
 use borrow.Author.Tests.{eq-eqb, ne-eqb, lt-ltb, le-ltb, eqb-true, eqb-false}
-use Rattle.inst.specs.Records.{part, nameIn}
+use Rattle.inst.specs.Records.{part, nameIn, same}
 use Rattle.inst.proofs.Laws.{never}
 use Rattle.machine.specs.declared.Label.{Label}
-use Rattle.machine.specs.Load.{same, nameOf, head}
+use Rattle.machine.specs.Load.{nameOf, head}
 use Rattle.machine.specs.Lookup.{Program, illChain, noLabel, leadsTo, labelAt, inProgram, walk, lookup, lookupFrom}
 use Rattle.step_core.specs.declared.LookedUp.{LookedUp}
 use Rattle.step_core.specs.declared.LookedUp.the-variants.{NotAsked, NoLabel, Target}

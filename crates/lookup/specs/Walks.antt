@@ -15,8 +15,8 @@ use Rattle.step_core.specs.Parts.{foundOf, isAsked}
 use Rattle.lookup.specs.declared.Walk.{Walk}
 
 -- what a run is lent, the labels as records
-abbrev pub lent : List ℕ → List Inst → List Label → ℕ → Program
-lent image insts labels count = record { image = image; insts = insts; labels = labels; count = count }
+abbrev pub lentProgram : List ℕ → List Inst → List Label → ℕ → Program
+lentProgram image insts labels count = record { image = image; insts = insts; labels = labels; count = count }
 
 -- the answer r for the name at `start`: not asked where it doesn't lie in the image, else what its lookup finds
 pub record Finds (p : Program) (start len : ℕ) (r : LookedUp) : Type 0 where
@@ -50,4 +50,4 @@ pub record Turns (p : Program) (start len : ℕ) (w r : Walk) : Type 0 where
 abbrev pub Judges : List ℕ → ℕ → ℕ → ℕ → Label → Walk → Walk → Type 0
 Judges image count start len l w r =
     (insts : List Inst) (labels : List Label) → getD labels (w .at) (head 0) ≡ l → w .on ≡ true →
-    Walks (lent image insts labels count) start len w → Turns (lent image insts labels count) start len w r
+    Walks (lentProgram image insts labels count) start len w → Turns (lentProgram image insts labels count) start len w r

@@ -11,7 +11,7 @@ ghost use Rattle.inst.specs.Records.{nameIn};
 ghost use Rattle.machine.specs.declared.Label.{Label};
 ghost use Rattle.tables.specs.Tables.{labelsOf};
 ghost use Rattle.step_core.specs.declared.LookedUp.the-variants.{NoLabel, Target};
-ghost use Rattle.lookup.specs.Walks.{lent, Finds, GoesOn, Walks, Judges};
+ghost use Rattle.lookup.specs.Walks.{lentProgram, Finds, GoesOn, Walks, Judges};
 
 mod names;
 
@@ -42,7 +42,7 @@ fn answers(answer: LookedUp) -> Walk
 
 // On to the record `next`: 0 ends the chain, an index that isn't below the bound is 34.
 fn goes_on(next: u64, bound: usize) -> Walk
-    ensures { λ r. ⌜ ((image : List ℕ) (insts : List Inst) (labels : List Label) (count start len : ℕ) → nameIn image start len ≡ true → GoesOn (lent image insts labels count) start len bound next → Walks (lent image insts labels count) start len r × (r .bound < bound)) ⌝ }
+    ensures { λ r. ⌜ ((image : List ℕ) (insts : List Inst) (labels : List Label) (count start len : ℕ) → nameIn image start len ≡ true → GoesOn (lentProgram image insts labels count) start len bound next → Walks (lentProgram image insts labels count) start len r × (r .bound < bound)) ⌝ }
 {
     if next == 0 {
         return answers(LookedUp::NoLabel);
@@ -103,7 +103,7 @@ pub fn judge(image: &[u8], count: usize, w: Walk, l: Label, start: u64, len: u64
 
 // A walk from the head of a table of so many records. An empty table is 34: the head's index 0 is past it.
 pub fn begin(image: &[u8], records: usize, start: u64, len: u64) -> Walk
-    ensures { λ r. ⌜ ((insts : List Inst) (labels : List Label) (count : ℕ) → length labels ≡ records → Walks (lent (now (image .entry)) insts labels count) start len r) ⌝ }
+    ensures { λ r. ⌜ ((insts : List Inst) (labels : List Label) (count : ℕ) → length labels ≡ records → Walks (lentProgram (now (image .entry)) insts labels count) start len r) ⌝ }
 {
     if inst::name_in(image, start, len) {
         if 0 < records {
@@ -123,7 +123,7 @@ pub fn begin(image: &[u8], records: usize, start: u64, len: u64) -> Walk
 
 // What the lookup of a name answers: NotAsked where the name doesn't lie in the image, so that no jump has it.
 pub fn lookup(image: &[u8], labels: &[u8], count: usize, start: u64, len: u64) -> LookedUp
-    ensures { λ r. ⌜ ((insts : List Inst) → Finds (lent (now (image .entry)) insts (labelsOf (now (labels .entry))) count) start len r) ⌝ }
+    ensures { λ r. ⌜ ((insts : List Inst) → Finds (lentProgram (now (image .entry)) insts (labelsOf (now (labels .entry))) count) start len r) ⌝ }
 {
     let mut w = begin(image, labels.len() / RECORD, start, len);
     while w.on {

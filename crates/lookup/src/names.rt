@@ -2,14 +2,13 @@
 ghost use mathlib.Core.Path.{_≡_};
 ghost use Prim.Native.Nat.{_+_, _≤_};
 ghost use lib.ListN.{length};
-ghost use Rattle.inst.specs.Records.{part};
-ghost use Rattle.machine.specs.Load as definition;
-use loader::same_name;
+ghost use Rattle.inst.specs.Records.{part, same};
+use inst::same_name;
 
 // Whether two names of the image are the same bytes.
 pub fn matches(image: &[u8], s: u64, n: u64, t: u64, m: u64) -> bool
     requires { ⌜ (s + n ≤ length (now image)) × (t + m ≤ length (now image)) ⌝ }
-    ensures { λ r. ⌜ r ≡ definition.same (part (now (image .entry)) s n) (part (now (image .entry)) t m) ⌝ }
+    ensures { λ r. ⌜ r ≡ same (part (now (image .entry)) s n) (part (now (image .entry)) t m) ⌝ }
 {
     let a = s as usize;
     let b = a + n as usize;

@@ -8,12 +8,12 @@ use native.Mathlib.Omega.{arith}
 use lib.Dec.{eqb, ltb, leb}
 use lib.ListN.{length}
 use borrow.Author.Tests.{ltb-true, ltb-false, eqb-false}
-use Rattle.inst.specs.Records.{nameIn}
+use Rattle.inst.specs.Records.{nameIn, same}
 use Rattle.inst.proofs.Laws.{by-test, and-left}
 use Rattle.inst_decode.specs.Decode.{Answer, refused, reads}
 use Rattle.inst_decode.proofs.Facts.{Told, told}
 use Rattle.machine.specs.Limits.{instLimit, labelRecords}
-use Rattle.machine.specs.Load.{isLabel, same, nameOf, Scan, Scanned, stops, goes, begin, added, scanOne, andThen, scan}
+use Rattle.machine.specs.Load.{isLabel, nameOf, Scan, Scanned, stops, goes, begin, added, scanOne, andThen, scan}
 use Rattle.machine.specs.Lookup.{Program, Found, illChain, noLabel, labelAt, inProgram, walk}
 
 -- no bytes are left but n

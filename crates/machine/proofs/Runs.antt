@@ -25,7 +25,7 @@ use Rattle.machine.specs.Effects.{effects}
 use Rattle.machine.specs.Touches.{touches}
 use Rattle.machine.specs.Steps.{touchesAt, foundAt}
 use Rattle.machine.specs.History.{State, initial, History, none, end, stepped, programOf, effectsAt, further, history}
-use Rattle.machine.specs.Statements.{Request, runs, lastMachine, totalSteps, allDumped, is-ill, is-full, is-trap, Because, AllBelow, Counted, Below, AllKept, RunsFrom, lent, RunsAreOneHistory, NamesLeadToLast}
+use Rattle.machine.specs.Statements.{Request, runs, lastMachine, totalSteps, allDumped, is-ill, is-full, is-trap, Because, AllBelow, Counted, Below, AllKept, RunsFrom, loadedProgram, RunsAreOneHistory, NamesLeadToLast}
 use Rattle.inst.proofs.Laws.{never, or-left, or-right}
 use Rattle.machine.proofs.Does.{Does, step-does, traps-leave}
 use Rattle.machine.proofs.Sound.{Sound, counted, below, Ahead, at-halt, ahead, stepped-sound}
@@ -241,8 +241,8 @@ module _ (image : List ℕ) (insts : List Inst) (labels : List Label) (l : Loade
   abbrev ls' : List Label
   ls' = drop (length (l .labels)) labels
 
-  lent-is : lent image insts labels l ≡ padded image l is' ls'
-  unfolding lent instsAfter labelsAfter
+  lent-is : loadedProgram image insts labels l ≡ padded image l is' ls'
+  unfolding loadedProgram instsAfter labelsAfter
   lent-is =
       let c = accepted .chain in
       let is = filled (l .insts) insts (omega (arith, accepted .count-fits, ltb-false (length insts) instLimit (or-left _ _ (room .0)))) in

@@ -8,11 +8,11 @@ use lib.Dec.{eqb·suc-zero}
 use lib.ListN.{length, getD, length-append, List·getD-append}
 use borrow.Author.Tests.{lt-ltb, le-leb}
 use Rattle.inst.specs.declared.Inst.{Inst}
-use Rattle.inst.specs.Records.{part}
+use Rattle.inst.specs.Records.{part, same}
 use Rattle.machine.specs.declared.Machine.{Machine}
 use Rattle.machine.specs.declared.Label.{Label}
 use Rattle.machine.specs.Limits.{stackLimit, callLimit}
-use Rattle.machine.specs.Load.{halt, same, nameOf, head, Entry, noEntry, entry, lastOf, Loaded, countOf}
+use Rattle.machine.specs.Load.{halt, nameOf, head, Entry, noEntry, entry, lastOf, Loaded, countOf}
 use Rattle.machine.specs.Change.{callHeight}
 use Rattle.machine.specs.Lookup.{Program, Found, illChain, noLabel, leadsTo, labelAt, walk, lookupFrom, lookup}
 use Rattle.machine.specs.Step.{instAt, wellState, step, exec, opOf}

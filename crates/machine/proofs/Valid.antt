@@ -12,12 +12,12 @@ use lib.Seq.{getD-at}
 use borrow.Author.Tests.{eqb-true, eqb-false, eq-eqb, ltb-true, ltb-false, leb-false}
 use Rattle.inst.specs.declared.Inst.{Inst}
 use Rattle.inst.specs.Forms.{Form, name, formOf, hasNone, hasEight, hasOne, hasName}
-use Rattle.inst.specs.Records.{Bytes, nameIn, fits, wellFormed}
+use Rattle.inst.specs.Records.{Bytes, nameIn, fits, wellFormed, same}
 use Rattle.inst_decode.specs.Decode.{Answer, refused, reads}
 use Rattle.inst_decode.proofs.Facts.{Told, told}
 use Rattle.machine.specs.declared.Label.{Label}
 use Rattle.machine.specs.Limits.{imageLimit, instLimit, labelRecords}
-use Rattle.machine.specs.Load.{isLabel, isHalt, halt, same, nameOf, startName, head, linked, Scan, Scanned, stops, goes, begin, added, scanOne, andThen, scan, Entry, noEntry, entry, lastOf, anyNative, lastIsHalt, closed, Loaded, Load, rejects, accepts, checked, entered, finished, loads, countOf}
+use Rattle.machine.specs.Load.{isLabel, isHalt, halt, nameOf, startName, head, linked, Scan, Scanned, stops, goes, begin, added, scanOne, andThen, scan, Entry, noEntry, entry, lastOf, anyNative, lastIsHalt, closed, Loaded, Load, rejects, accepts, checked, entered, finished, loads, countOf}
 use Rattle.machine.specs.Encode.{allWellFormed}
 use Rattle.machine.specs.Statements.{Labels, Defines, DefinesLast}
 use Rattle.inst.proofs.Laws.{by-test, never, and-left, and-right}

@@ -6,7 +6,7 @@ use lib.Dec.{eqb, ltb, leb}
 use lib.ListN.{length, drop, replicate}
 use lib.Seq.{sets}
 use Rattle.inst.specs.declared.Inst.{Inst}
-use Rattle.inst.specs.Records.{part, plain}
+use Rattle.inst.specs.Records.{part, plain, same}
 use Rattle.inst_decode.specs.Decode.{Answer, refused, reads, fromBytes}
 use Rattle.machine.specs.declared.Machine.{Machine}
 use Rattle.machine.specs.declared.Label.{Label}
@@ -24,13 +24,6 @@ isHalt i = eqb (i .typ) 69
 
 abbrev pub halt : Inst
 halt = plain 69 0
-
--- two names are the same bytes
-unfoldable pub same : List ℕ → List ℕ → Bool
-same [] [] = true
-same [] (y ∷ ys) = false
-same (x ∷ xs) [] = false
-same (x ∷ xs) (y ∷ ys) = eqb x y && same xs ys
 
 abbrev pub nameOf : List ℕ → Label → List ℕ
 nameOf image l = part image (l .start) (l .len)

@@ -5,9 +5,9 @@ use mathlib.Core.List.{List, [], _∷_}
 use lib.Dec.{eqb, ltb}
 use lib.ListN.{length, getD}
 use Rattle.inst.specs.declared.Inst.{Inst}
-use Rattle.inst.specs.Records.{part, nameIn}
+use Rattle.inst.specs.Records.{part, nameIn, same}
 use Rattle.machine.specs.declared.Label.{Label}
-use Rattle.machine.specs.Load.{same, nameOf, head}
+use Rattle.machine.specs.Load.{nameOf, head}
 
 -- the image, the two tables, and the count of instructions
 pub record Program : Type 0 where

@@ -140,15 +140,15 @@ runs p m [] = []
 runs p m (q ∷ qs) = let r = run p (q .limit) (q .buffer) m in r ∷ runs p (r .machine) qs
 
 -- what the runs are lent: the image, the tables as load leaves them, and the count
-unfoldable pub lent : List ℕ → List Inst → List Label → Loaded → Program
-lent image insts labels l =
+unfoldable pub loadedProgram : List ℕ → List Inst → List Label → Loaded → Program
+loadedProgram image insts labels l =
     record { image = image; insts = instsAfter (accepts l) insts; labels = labelsAfter (accepts l) labels; count = countOf l }
 
 -- Demand 3: the runs of every list, from the fresh machine of every accepted image, are together one history
 abbrev pub RunsAreOneHistory : Type 0
 RunsAreOneHistory =
     (image : List ℕ) (insts : List Inst) (labels : List Label) (l : Loaded) → Bytes image → load image insts labels ≡ accepts l
-    → (qs : List Request) (rs : List Result) → RunsFrom (lent image insts labels l) (fresh l) qs rs → OneHistory image l qs rs
+    → (qs : List Request) (rs : List Result) → RunsFrom (loadedProgram image insts labels l) (fresh l) qs rs → OneHistory image l qs rs
 
 -- ---- names, for every accepted image
 
@@ -179,7 +179,7 @@ pub record LeadsToLast (image : List ℕ) (l : Loaded) (p : Program) : Type 0 wh
 abbrev pub NamesLeadToLast : Type 0
 NamesLeadToLast =
     (image : List ℕ) (insts : List Inst) (labels : List Label) (l : Loaded) → Bytes image → load image insts labels ≡ accepts l
-    → LeadsToLast image l (lent image insts labels l)
+    → LeadsToLast image l (loadedProgram image insts labels l)
 
 -- ---- the numbers that bound the recursions of load and lookup only let the definitions end
 

@@ -75,8 +75,8 @@ numberOf Ptr = 4
 abbrev pub is : CellType → ℕ → Bool
 is t c = eqb (numberOf (typeOf c)) (numberOf t)
 
-abbrev pub known : ℕ → Bool
-known c = not (is Unknown c)
+abbrev pub typeKnown : ℕ → Bool
+typeKnown c = not (is Unknown c)
 
 -- the value is below zero
 unfoldable pub minus : ℤ → Bool
@@ -121,7 +121,7 @@ integerStep k m =
     let p = popped m in
     let a = top p in
     m must leb 2 (m .height) else 20 then
-    p must known a && known b else 31 then
+    p must typeKnown a && typeKnown b else 31 then
     p must is I64 a && is I64 b else 30 then
     p must divides k b else 24 then
     succeeds (onward (replaced (ofCells k a b) p))
@@ -227,7 +227,7 @@ convert k m =
     let c = top m in
     let p = popped m in
     m must ltb 0 (m .height) else 20 then
-    p must known c else 31 then
+    p must typeKnown c else 31 then
     p must ruleOf k c .takes else 28 then
     p must not (ruleOf k c .below) else 29 then
     succeeds (onward (replaced (ruleOf k c .gives) m))

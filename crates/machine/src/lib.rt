@@ -1,6 +1,8 @@
 // The machine's types. Document 01's definitions over them stand in specs/, the theorems in proofs/.
 ghost use Rattle.machine.specs.Theorems.{Theorems};
 
+pub mod traps;
+
 // The most cells and return addresses, and the bytes of the memory.
 pub const STACK_LIMIT: usize = 1024;
 

@@ -10,7 +10,7 @@ use lib.Seq.{slice, take-at, drop-at, getD-at}
 use borrow.Author.Tests.{eq-eqb}
 use Rattle.word.specs.Words.{littleEndian, word, eightOf}
 use Rattle.word.proofs.Laws.{number-back}
-use Rattle.inst.proofs.Laws.{lent}
+use Rattle.inst.proofs.Laws.{slice-of}
 use Rattle.machine.specs.declared.Machine.{Machine}
 use Rattle.machine.specs.Change.{callHeight}
 use Rattle.tables.specs.Tables.{numbersIn, bytesOf}
@@ -27,7 +27,7 @@ numbers-back (v ∷ vs) = rw (number-back v, numbers-back vs)
 part-is : (xs ys zs : List ℕ) (from to : ℕ) → length xs ≡ from → from + length ys ≡ to → slice from to (xs ++ (ys ++ zs)) ≡ ys
 part-is xs ys zs from to f t =
     let n : length ys ≡ to - from = omega arith in
-    sym (lent from to (xs ++ (ys ++ zs))) ∙ ap (take (to - from)) (drop-at xs (ys ++ zs) from f) ∙ take-at ys zs (to - from) n
+    sym (slice-of from to (xs ++ (ys ++ zs))) ∙ ap (take (to - from)) (drop-at xs (ys ++ zs) from f) ∙ take-at ys zs (to - from) n
 
 length-eight : (v : ℕ) → length (eightOf v) ≡ 8
 unfolding eightOf

@@ -12,8 +12,8 @@ use Rattle.machine.specs.Limits.{stackLimit, callLimit, memorySize}
 use Rattle.tables.specs.Tables.{bytesOf}
 use Rattle.tables.proofs.Bytes.{length-bytes, stored-more}
 use Rattle.tables.proofs.Parts.{lent-whole, sets-whole}
-use Rattle.step_core.specs.declared.Core.{Core}
-use Rattle.step_core.specs.Parts.{callHeight, whole}
+use Rattle.step_core.specs.declared.Registers.{Registers}
+use Rattle.step_core.specs.Parts.{callHeight, ofParts}
 use Rattle.machine_bytes.specs.Layout.{callsAt, memoryAt, heightAt, callHeightAt, ipAt, flagsAt, haltedAt, machineSize, machineBytes}
 
 -- a copy over as many bytes
@@ -65,9 +65,9 @@ pub three : (h ch ip : ℕ) (rest : List ℕ) → eightOf h ++ (eightOf ch ++ (e
 unfolding bytesOf eightOf
 three h ch ip rest = refl
 
-pub core-stored : (m m1 m2 m3 : List ℕ) (h ch ip f b : ℕ) → m1 ≡ sets m heightAt (eightOf h) → m2 ≡ sets m1 callHeightAt (eightOf ch) → m3 ≡ sets m2 ipAt (eightOf ip)
+pub registers-stored : (m m1 m2 m3 : List ℕ) (h ch ip f b : ℕ) → m1 ≡ sets m heightAt (eightOf h) → m2 ≡ sets m1 callHeightAt (eightOf ch) → m3 ≡ sets m2 ipAt (eightOf ip)
     → set (set m3 flagsAt f) haltedAt b ≡ sets m heightAt (bytesOf (h ∷ ch ∷ ip ∷ []) ++ (f ∷ b ∷ []))
-core-stored m m1 m2 m3 h ch ip f b p q r =
+registers-stored m m1 m2 m3 h ch ip f b p q r =
     let rest = f ∷ b ∷ [] in
     ap (λ (x : List ℕ). sets x flagsAt rest) r
     ∙ stored-more m2 rest ip ipAt flagsAt refl
@@ -78,11 +78,11 @@ core-stored m m1 m2 m3 h ch ip f b p q r =
     ∙ ap (sets m heightAt) (three h ch ip rest)
 
 -- all of them
-pub parts-stored : (c : Core) (f : ℕ) (halted : Bool) (m s ca me m1 m2 : List ℕ) → length m ≡ machineSize
+pub parts-stored : (c : Registers) (f : ℕ) (halted : Bool) (m s ca me m1 m2 : List ℕ) → length m ≡ machineSize
     → m1 ≡ sets m 0 (bytesOf s ++ bytesOf ca ++ me)
     → length (bytesOf s ++ bytesOf ca ++ me) ≡ heightAt
     → m2 ≡ sets m1 heightAt (bytesOf (c .height ∷ callHeight c ∷ c .ip ∷ []) ++ (f ∷ cond halted 1 0 ∷ []))
-    → m2 ≡ machineBytes (whole c f s ca me halted)
+    → m2 ≡ machineBytes (ofParts c f s ca me halted)
 unfolding machineBytes
 parts-stored c f halted m s ca me m1 m2 long p n q =
     let front = bytesOf s ++ bytesOf ca ++ me in

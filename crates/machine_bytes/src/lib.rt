@@ -7,15 +7,15 @@ ghost use mathlib.Core.List.{[], _∷_, _++_};
 ghost use lib.ListN.{length};
 ghost use lib.Seq.{sets};
 ghost use Rattle.tables.specs.Tables.{numbersIn, bytesOf};
-ghost use Rattle.step_core.specs.Parts.{callHeight, whole};
+ghost use Rattle.step_core.specs.Parts.{callHeight, ofParts};
 ghost use Rattle.machine_bytes.specs.Layout.{machineSize, heightAt, isMachine, machineOf, machineBytes, Crosses};
-ghost use Rattle.machine_bytes.specs.Parts.{coreOf};
+ghost use Rattle.machine_bytes.specs.Parts.{registersOf};
 use bytes::copy;
 use machine::CALL_LIMIT;
 use machine::MEMORY_SIZE;
 use machine::Machine;
 use machine::STACK_LIMIT;
-use step_core::Core;
+use step_core::Registers;
 use tables::NUMBER;
 use tables::number_at;
 use word::put_word;
@@ -89,11 +89,11 @@ pub fn read_arrays(
 }
 
 // Its numbers that a run carries.
-pub fn core_of(machine: &[u8]) -> Core
+pub fn registers_of(machine: &[u8]) -> Registers
     requires { ⌜ length (now machine) ≡ machineSize ⌝ }
-    ensures { λ r. ⌜ r ≡ coreOf (machineOf (now (machine .entry))) ⌝ }
+    ensures { λ r. ⌜ r ≡ registersOf (machineOf (now (machine .entry))) ⌝ }
 {
-    Core {
+    Registers {
         ip: word_at(machine, IP) as usize,
         height: word_at(machine, HEIGHT) as usize,
         call_height: word_at(machine, CALL_HEIGHT) as usize,
@@ -137,20 +137,20 @@ fn bit(b: bool) -> u8
 }
 
 // The numbers, flags and halted, into the bytes from the height on.
-fn write_core(core: Core, flags: u8, halted: bool, machine: &mut [u8])
+fn write_registers(registers: Registers, flags: u8, halted: bool, machine: &mut [u8])
     requires { ⌜ length (now machine) ≡ machineSize ⌝ }
-    ensures { λ _. ⌜ now (machine .exit) ≡ sets (now (machine .entry)) heightAt (bytesOf (core .height ∷ callHeight core ∷ core .ip ∷ []) ++ (flags ∷ cond halted 1 0 ∷ [])) ⌝ }
+    ensures { λ _. ⌜ now (machine .exit) ≡ sets (now (machine .entry)) heightAt (bytesOf (registers .height ∷ callHeight registers ∷ registers .ip ∷ []) ++ (flags ∷ cond halted 1 0 ∷ [])) ⌝ }
 {
-    put_word(machine, HEIGHT, core.height as u64);
-    put_word(machine, CALL_HEIGHT, core.call_height as u64);
-    put_word(machine, IP, core.ip as u64);
+    put_word(machine, HEIGHT, registers.height as u64);
+    put_word(machine, CALL_HEIGHT, registers.call_height as u64);
+    put_word(machine, IP, registers.ip as u64);
     machine[FLAGS] = flags;
     machine[HALTED] = bit(halted);
 }
 
 // The machine of these parts, in every byte.
 pub fn write_parts(
-    core: Core,
+    registers: Registers,
     flags: u8,
     halted: bool,
     stack: &[u64; STACK_LIMIT],
@@ -159,17 +159,17 @@ pub fn write_parts(
     machine: &mut [u8],
 )
     requires { ⌜ length (now machine) ≡ machineSize ⌝ }
-    ensures { λ _. ⌜ now (machine .exit) ≡ machineBytes (whole core flags (now (stack .entry)) (now (calls .entry)) (now (memory .entry)) halted) ⌝ }
+    ensures { λ _. ⌜ now (machine .exit) ≡ machineBytes (ofParts registers flags (now (stack .entry)) (now (calls .entry)) (now (memory .entry)) halted) ⌝ }
 {
     write_arrays(stack, calls, memory, machine);
-    write_core(core, flags, halted, machine);
+    write_registers(registers, flags, halted, machine);
 }
 
 pub fn write_machine(m: Machine, machine: &mut [u8])
     requires { ⌜ length (now machine) ≡ machineSize ⌝ }
     ensures { λ _. ⌜ now (machine .exit) ≡ machineBytes m ⌝ }
 {
-    let core = Core {
+    let registers = Registers {
         ip: m.ip,
         height: m.height,
         call_height: m.call_height,
@@ -177,7 +177,15 @@ pub fn write_machine(m: Machine, machine: &mut [u8])
     let stack = m.stack;
     let calls = m.calls;
     let memory = m.memory;
-    write_parts(core, m.flags, m.halted, &stack, &calls, &memory, machine);
+    write_parts(
+        registers,
+        m.flags,
+        m.halted,
+        &stack,
+        &calls,
+        &memory,
+        machine,
+    );
 }
 
 // No code: its contract states that a machine crosses and comes back.

@@ -12,13 +12,13 @@ use Rattle.machine.specs.Load.{Load, rejects, accepts}
 use Rattle.loader.specs.declared.Loading.{Loading}
 use Rattle.loader.specs.declared.Loading.the-variants.{Refused, Accepted}
 use Rattle.loader.specs.Loading.{FromBinary, means, answerOf, freshAt, instsLeft, labelsLeft}
-use Rattle.step_core.specs.declared.Core.{Core}
-use Rattle.step_core.specs.Parts.{whole}
+use Rattle.step_core.specs.declared.Registers.{Registers}
+use Rattle.step_core.specs.Parts.{ofParts}
 use Rattle.run.specs.declared.progress.Progress.{Progress}
 use Rattle.run.specs.Runs.{ExecuteParts}
-use Rattle.host_answer.specs.declared.Ran.{Ran}
+use Rattle.c_answers.specs.declared.Ran.{Ran}
 use Rattle.machine_bytes.specs.Layout.{machineSize, isMachine, machineOf, machineBytes}
-use Rattle.machine_bytes.specs.Parts.{coreOf}
+use Rattle.machine_bytes.specs.Parts.{registersOf}
 use Rattle.mm_host.specs.Calls.{loadedBy, loadCall, ranBy, ranWith, runCall}
 
 -- a load that refuses, and one that accepts, whose machine m was written
@@ -52,8 +52,8 @@ unfolding isMachine
 machine-long bytes h = eqb-true _ _ (and-left (eqb (length bytes) machineSize) _ h)
 
 -- the parts that were read are the machine that is lent
-pub read-is : (bytes : List ℕ) (c : Core) (f : ℕ) (h : Bool) (s ca me : List ℕ) → (s ≡ machineOf bytes .stack) × (ca ≡ machineOf bytes .calls) × (me ≡ machineOf bytes .memory)
-    → c ≡ coreOf (machineOf bytes) → f ≡ machineOf bytes .flags → h ≡ machineOf bytes .halted → whole c f s ca me h ≡ machineOf bytes
+pub read-is : (bytes : List ℕ) (c : Registers) (f : ℕ) (h : Bool) (s ca me : List ℕ) → (s ≡ machineOf bytes .stack) × (ca ≡ machineOf bytes .calls) × (me ≡ machineOf bytes .memory)
+    → c ≡ registersOf (machineOf bytes) → f ≡ machineOf bytes .flags → h ≡ machineOf bytes .halted → ofParts c f s ca me h ≡ machineOf bytes
 read-is bytes c f h s ca me arrays p q r = rw (p, q, r, arrays .0, arrays .1, arrays .2) refl
 
 -- a run over a machine m that was read, whose outcome was written back
@@ -61,7 +61,7 @@ pub run-call : (image insts labels : List ℕ) (count : ℕ) (machine : List ℕ
     isMachine machine ≡ true →
     m ≡ machineOf machine →
     ExecuteParts image insts labels count m limit dumps r s ca me dumps′ →
-    machine′ ≡ machineBytes (whole (r .core) (r .flags) s ca me (eqb (r .ending) 0)) →
+    machine′ ≡ machineBytes (ofParts (r .registers) (r .flags) s ca me (eqb (r .ending) 0)) →
     a ≡ ranWith limit r →
     runCall image insts labels count machine limit dumps ≡ record { ending = a .ending; steps = a .steps; dumped = a .dumped; machine = machine′; dumps = dumps′ }
 unfolding runCall ranBy

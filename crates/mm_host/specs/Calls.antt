@@ -12,8 +12,8 @@ use Rattle.loader.specs.Loading.{loadOf, instsLeft, labelsLeft}
 use Rattle.run.specs.declared.progress.Progress.{Progress}
 use Rattle.run.specs.Turns.{endingOf}
 use Rattle.run.specs.Runs.{runBytes}
-use Rattle.host_answer.specs.declared.Ran.{Ran}
-use Rattle.host_answer.specs.Endings.{endingNumber}
+use Rattle.c_answers.specs.declared.Ran.{Ran}
+use Rattle.c_answers.specs.Endings.{endingNumber}
 use Rattle.machine_bytes.specs.Layout.{machineSize, isMachine, machineOf, machineBytes}
 
 -- what is lent is no machine; a number of our own

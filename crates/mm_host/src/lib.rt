@@ -3,11 +3,11 @@
 ghost use mathlib.Core.Path.{_≡_};
 ghost use Prim.Native.Nat.{_≤_};
 ghost use Rattle.mm_host.specs.Calls.{ranWith, loadCall, runCall, encodeCall};
+use c_answers::Loaded;
+use c_answers::Ran;
+use c_answers::ending_number;
 use encoder::Written;
 use encoder::to_binary;
-use host_answer::Loaded;
-use host_answer::Ran;
-use host_answer::ending_number;
 use loader::Loading;
 use loader::fresh;
 use loader::from_binary;
@@ -15,11 +15,11 @@ use machine::CALL_LIMIT;
 use machine::MEMORY_SIZE;
 use machine::STACK_LIMIT;
 use machine_bytes::MACHINE_SIZE;
-use machine_bytes::core_of;
 use machine_bytes::flags_of;
 use machine_bytes::is_halted;
 use machine_bytes::is_machine;
 use machine_bytes::read_arrays;
+use machine_bytes::registers_of;
 use machine_bytes::write_machine;
 use machine_bytes::write_parts;
 use run::ending;
@@ -59,7 +59,7 @@ pub extern "C" fn mm_load(
                 count: 0,
             };
         }
-        Loading::Accepted(ip, count) => {
+        Loading::Accepted { ip, count } => {
             let m = fresh(ip);
             write_machine(m, machine);
             return Loaded {
@@ -113,7 +113,7 @@ pub extern "C" fn mm_run(
         insts,
         labels,
         count as usize,
-        core_of(machine),
+        registers_of(machine),
         flags_of(machine),
         is_halted(machine),
         limit,
@@ -122,7 +122,15 @@ pub extern "C" fn mm_run(
         &mut b,
         dumps,
     );
-    write_parts(left.core, left.flags, left.ending == 0, &s, &c, &b, machine);
+    write_parts(
+        left.registers,
+        left.flags,
+        left.ending == 0,
+        &s,
+        &c,
+        &b,
+        machine,
+    );
     ran(left, limit)
 }
 

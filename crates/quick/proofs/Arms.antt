@@ -7,17 +7,17 @@ use Rattle.machine.specs.declared.Machine.{Machine}
 use Rattle.machine.specs.Lookup.{Found, leadsTo}
 use Rattle.machine.specs.Step.{Stepped}
 use Rattle.tables.specs.Tables.{inst}
-use Rattle.step_core.specs.declared.Core.{Core}
+use Rattle.step_core.specs.declared.Registers.{Registers}
 use Rattle.step_core.specs.declared.Executed.{Executed}
 use Rattle.step_core.specs.declared.Executed.the-variants.{Next, Compared, Dump, Halt, Trap, Ill}
-use Rattle.step_core.specs.Parts.{whole, Acts}
+use Rattle.step_core.specs.Parts.{ofParts, Acts}
 use Rattle.quick.specs.declared.Quick.{Quick}
 use Rattle.known.specs.Known.{looksUp}
 use Rattle.quick.specs.Quick.{StepOrStop, successOf, stepAt}
 
 -- of an answer only success counts
-module _ {i : Machine → Stepped} {c : Core} {s ca me s' ca' me' : List ℕ} where
-  by-answer : (f : ℕ) (answer : Executed) → Acts i c s ca me answer s' ca' me' → StepOrStop (i (whole c f s ca me false)) s ca me s' ca' me' (successOf answer f)
+module _ {i : Machine → Stepped} {c : Registers} {s ca me s' ca' me' : List ℕ} where
+  by-answer : (f : ℕ) (answer : Executed) → Acts i c s ca me answer s' ca' me' → StepOrStop (i (ofParts c f s ca me false)) s ca me s' ca' me' (successOf answer f)
   unfolding successOf
   by-answer f (Next n) a = record { holds = (a .does f, a .small) }
   by-answer f (Compared n g) a = record { holds = (a .does f, a .small) }
@@ -27,7 +27,7 @@ module _ {i : Machine → Stepped} {c : Core} {s ca me s' ca' me' : List ℕ} wh
   by-answer f Ill a = record { holds = a .kept }
 
   pub quickly : {answer : Executed} {r : Quick} (f : ℕ) → Acts i c s ca me answer s' ca' me' → r ≡ successOf answer f →
-      StepOrStop (i (whole c f s ca me false)) s ca me s' ca' me' r
+      StepOrStop (i (ofParts c f s ca me false)) s ca me s' ca' me' r
   quickly f a e = rw e (by-answer f _ a)
 
 -- the same for an equal step

@@ -14,11 +14,11 @@ use Rattle.machine.specs.Lookup.{Program, leadsTo, lookup}
 use Rattle.machine.specs.Step.{Stepped, succeeds, ill, exec, opOf, step, wellState, instAt}
 use Rattle.machine.specs.Run.{Course, course, turn, before, taken, isIll, isDump, after}
 use Rattle.quick.proofs.Turns.{course-turn, before-on}
-use Rattle.tables.specs.Tables.{numberAt, inst}
-use Rattle.step_core.specs.declared.Core.{Core}
-use Rattle.step_core.specs.Parts.{whole, Inside}
+use Rattle.tables.specs.Tables.{numberAt, inst, instOf}
+use Rattle.step_core.specs.declared.Registers.{Registers}
+use Rattle.step_core.specs.Parts.{ofParts, Inside}
 use Rattle.quick.specs.declared.Quick.the-variants.{Success}
-use Rattle.known.specs.Known.{knownLimit, unknown, instOf, KnownAt, Over, Known}
+use Rattle.known.specs.Known.{knownLimit, unknown, KnownAt, Over, Known}
 use Rattle.known.proofs.Records.{inst-is, within}
 use Rattle.quick.specs.Quick.{StepOrStop, ExecutesKnown, stepAt}
 use Rattle.quick.specs.Courses.{plus, Leads}
@@ -59,48 +59,48 @@ plus-more k k' r h =
 
 module _ (xs keys targets : List ℕ) where
   -- no step was made yet
-  pub begun : (c : Core) (f steps : ℕ) (s ca me : List ℕ) → Inside c →
-      Leads xs keys targets (whole c f s ca me false) steps (record { core = c; left = steps; flags = f }) s ca me
+  pub begun : (c : Registers) (f steps : ℕ) (s ca me : List ℕ) → Inside c →
+      Leads xs keys targets (ofParts c f s ca me false) steps (record { registers = c; left = steps; flags = f }) s ca me
   begun c f steps s ca me h =
       record {
-        leads = λ p o k room. let e : steps - steps ≡ 0 = omega arith in ap (λ (n : ℕ). plus n (course p steps room (whole c f s ca me false))) e ∙ plus-none _;
+        leads = λ p o k room. let e : steps - steps ≡ 0 = omega arith in ap (λ (n : ℕ). plus n (course p steps room (ofParts c f s ca me false))) e ∙ plus-none _;
         small = h;
         fewer = omega arith;
       }
 
-  module _ (m₀ : Machine) (steps : ℕ) (c : Core) (f left : ℕ) (s ca me : List ℕ)
-      (inv : Leads xs keys targets m₀ steps (record { core = c; left = left; flags = f }) s ca me) where
+  module _ (m₀ : Machine) (steps : ℕ) (c : Registers) (f left : ℕ) (s ca me : List ℕ)
+      (inv : Leads xs keys targets m₀ steps (record { registers = c; left = left; flags = f }) s ca me) where
     -- no more steps are made
     pub stopped-at : (s' ca' me' : List ℕ) → (s' ≡ s) × (ca' ≡ ca) × (me' ≡ me) →
-        Leads xs keys targets m₀ steps (record { core = c; left = left; flags = f }) s' ca' me'
+        Leads xs keys targets m₀ steps (record { registers = c; left = left; flags = f }) s' ca' me'
     stopped-at s' ca' me' e = rw (e .0, e .1, e .2) inv
 
     -- one more was made
-    module _ (l : 0 < left) (h : c .ip < knownLimit) (n : Core) (g : ℕ) (s' ca' me' : List ℕ)
+    module _ (l : 0 < left) (h : c .ip < knownLimit) (n : Registers) (g : ℕ) (s' ca' me' : List ℕ)
         (q : ExecutesKnown (getD keys (c .ip) 0) (numberAt xs (c .ip * 4 + 1)) (getD targets (c .ip) 0) c f s ca me (Success n g) s' ca' me') where
-      any : StepOrStop (stepAt (leadsTo (getD targets (c .ip) 0)) (inst (getD keys (c .ip) 0) (numberAt xs (c .ip * 4 + 1)) 0 0) (whole c f s ca me false)) s ca me s' ca' me' (Success n g)
+      any : StepOrStop (stepAt (leadsTo (getD targets (c .ip) 0)) (inst (getD keys (c .ip) 0) (numberAt xs (c .ip * 4 + 1)) 0 0) (ofParts c f s ca me false)) s ca me s' ca' me' (Success n g)
       any = q (leadsTo (getD targets (c .ip) 0)) 0 0 (λ _. refl)
 
       is-known : getD keys (c .ip) 0 ≡ unknown → ⊥
       unfolding stepAt
       is-known e =
-          let bad : succeeds (whole n g s' ca' me' false) ≡ ill = simp (eq-eqb _ _ e) at (any .holds .0) in
+          let bad : succeeds (ofParts n g s' ca' me' false) ≡ ill = simp (eq-eqb _ _ e) at (any .holds .0) in
           let z : _≡_ {A = ℕ} 0 1 = cc in
           omega arith
 
-      stepped : (p : Program) → Over p xs → Known p xs keys targets → step p (whole c f s ca me false) ≡ succeeds (whole n g s' ca' me' false)
+      stepped : (p : Program) → Over p xs → Known p xs keys targets → step p (ofParts c f s ca me false) ≡ succeeds (ofParts n g s' ca' me' false)
       unfolding stepAt
       stepped p o k =
           let a = k (c .ip) h is-known in
           let d = simp (ne-eqb _ _ is-known) at (q (lookup p (instOf xs (c .ip))) (numberAt xs (c .ip * 4 + 2)) (numberAt xs (c .ip * 4 + 3)) (a .target-is) .holds .0) in
-          known-step p xs o (whole c f s ca me false) (getD keys (c .ip) 0) (getD targets (c .ip) 0) a (inv .small .0) (inv .small .1) ∙ sym d
+          known-step p xs o (ofParts c f s ca me false) (getD keys (c .ip) 0) (getD targets (c .ip) 0) a (inv .small .0) (inv .small .1) ∙ sym d
 
-      pub success-on : Leads xs keys targets m₀ steps (record { core = n; left = left - 1; flags = g }) s' ca' me'
+      pub success-on : Leads xs keys targets m₀ steps (record { registers = n; left = left - 1; flags = g }) s' ca' me'
       success-on =
           record {
             leads = λ p o k room.
-                sym (plus-more (steps - left) (steps - (left - 1)) (course p (left - 1) room (whole n g s' ca' me' false)) (omega (arith, inv .fewer)))
-                ∙ ap (plus (steps - left)) (sym (success-turn p left room (whole c f s ca me false) (whole n g s' ca' me' false) l refl (stepped p o k)))
+                sym (plus-more (steps - left) (steps - (left - 1)) (course p (left - 1) room (ofParts n g s' ca' me' false)) (omega (arith, inv .fewer)))
+                ∙ ap (plus (steps - left)) (sym (success-turn p left room (ofParts c f s ca me false) (ofParts n g s' ca' me' false) l refl (stepped p o k)))
                 ∙ inv .leads p o k room;
             small = any .holds .1;
             fewer = omega (arith, inv .fewer);

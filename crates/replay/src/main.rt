@@ -3,11 +3,11 @@
 ghost use Prim.Native.Nat.{_+_, _≤_, _<_};
 ghost use lib.ListN.{length};
 ghost use Rattle.replay.specs.Reading.{Lies, Fits};
+use digests::DIGEST;
+use digests::Replayed;
+use digests::replay_image;
 use libc::STDIN_FILENO;
 use libc::STDOUT_FILENO;
-use trace::DIGEST;
-use trace::Replayed;
-use trace::replay_image;
 
 // More bytes than the sample has.
 const INPUT: usize = 262144;

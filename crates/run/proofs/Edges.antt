@@ -20,9 +20,9 @@ use Rattle.machine.specs.Run.{ended, course}
 use Rattle.tables.specs.Tables.{numbersIn, inst, instsOf}
 use Rattle.tables.proofs.Laws.{length-records}
 use Rattle.tables.proofs.Bytes.{length-numbers-in}
-use Rattle.step_core.specs.declared.Core.{Core}
-use Rattle.step_core.specs.Parts.{callHeight, whole, Inside}
-use Rattle.lookup.specs.Walks.{lent}
+use Rattle.step_core.specs.declared.Registers.{Registers}
+use Rattle.step_core.specs.Parts.{callHeight, ofParts, Inside}
+use Rattle.lookup.specs.Walks.{lentProgram}
 use Rattle.known.specs.Known.{knownLimit, unknown, Known}
 use Rattle.run.specs.declared.progress.Progress.{Progress}
 use Rattle.run.specs.Turns.{endingOf, closed, asking, ending, over, IsOver}
@@ -30,29 +30,29 @@ use Rattle.run.specs.Runs.{Reaches, Begins, runBytes, progressOf, Execut
 use Rattle.run.proofs.Courses.{more-none, halts, spends, ills, none-written}
 use Rattle.run.proofs.Running.{stands-over}
 
-module _ (image xs : List ℕ) (labels : List Label) (count : ℕ) (c : Core) (f : ℕ) (s ca me : List ℕ) where
-  pub too-high : stackLimit < c .height → wellState (lent image (instsOf xs) labels count) (whole c f s ca me false) ≡ false
+module _ (image xs : List ℕ) (labels : List Label) (count : ℕ) (c : Registers) (f : ℕ) (s ca me : List ℕ) where
+  pub too-high : stackLimit < c .height → wellState (lentProgram image (instsOf xs) labels count) (ofParts c f s ca me false) ≡ false
   unfolding wellState
   too-high h = rw (lt-leb _ _ h)
 
-  pub too-deep : callLimit < callHeight c → wellState (lent image (instsOf xs) labels count) (whole c f s ca me false) ≡ false
+  pub too-deep : callLimit < callHeight c → wellState (lentProgram image (instsOf xs) labels count) (ofParts c f s ca me false) ≡ false
   unfolding wellState
   too-deep h = simp (lt-leb _ _ h, and-false)
 
-  pub too-many : length xs / 32 < count → wellState (lent image (instsOf xs) labels count) (whole c f s ca me false) ≡ false
+  pub too-many : length xs / 32 < count → wellState (lentProgram image (instsOf xs) labels count) (ofParts c f s ca me false) ≡ false
   unfolding wellState
   too-many h = let l : length (instsOf xs) < count = omega (arith, length-records inst xs) in simp (lt-leb _ _ l, and-false)
 
 -- a run that makes no step
-module _ (p : Program) (xs b : List ℕ) (limit : ℕ) (c : Core) (f : ℕ) (h : Bool) (s ca me : List ℕ) where
+module _ (p : Program) (xs b : List ℕ) (limit : ℕ) (c : Registers) (f : ℕ) (h : Bool) (s ca me : List ℕ) where
   at-once : (left kind number : ℕ) → left ≡ limit → h ≡ eqb kind 0 → IsOver (ending c f left 0 kind number) →
-      course p limit (length b / 8) (whole c f s ca me h) ≡ ended (endingOf kind number) (whole c f s ca me h) →
+      course p limit (length b / 8) (ofParts c f s ca me h) ≡ ended (endingOf kind number) (ofParts c f s ca me h) →
       Begins p xs b limit c f h s ca me (ending c f left 0 kind number)
   at-once left kind number q i o r =
       let z : limit - left ≡ 0 = omega arith in
       record {
         stands = stands-over (replicate knownLimit unknown) (replicate knownLimit 0) (record {
-          is = ap (λ (n : ℕ). closed n (ending c f left 0 kind number) b s ca me) z ∙ ap (λ (x : Bool). ended (endingOf kind number) (whole c f s ca me x)) (sym i) ∙ sym r;
+          is = ap (λ (n : ℕ). closed n (ending c f left 0 kind number) b s ca me) z ∙ ap (λ (x : Bool). ended (endingOf kind number) (ofParts c f s ca me x)) (sym i) ∙ sym r;
           long = refl;
           written = none-written b;
           fewer = omega arith;
@@ -62,13 +62,13 @@ module _ (p : Program) (xs b : List ℕ) (limit : ℕ) (c : Core) (f : ℕ) (h :
       }
 
   pub begins-halted : h ≡ true → Begins p xs b limit c f h s ca me (ending c f limit 0 0 0)
-  begins-halted i = at-once limit 0 0 refl i refl (halts p limit (length b / 8) (whole c f s ca me h) i)
+  begins-halted i = at-once limit 0 0 refl i refl (halts p limit (length b / 8) (ofParts c f s ca me h) i)
 
   pub begins-spent : h ≡ false → limit ≡ 0 → Begins p xs b limit c f h s ca me (ending c f 0 0 1 0)
-  begins-spent i z = at-once 0 1 0 (sym z) i refl (spends p limit (length b / 8) (whole c f s ca me h) i z)
+  begins-spent i z = at-once 0 1 0 (sym z) i refl (spends p limit (length b / 8) (ofParts c f s ca me h) i z)
 
-  pub begins-ill : h ≡ false → (limit ≡ 0 → ⊥) → wellState p (whole c f s ca me false) ≡ false → Begins p xs b limit c f h s ca me (ending c f limit 0 2 34)
-  begins-ill i z w = at-once limit 2 34 refl i refl (ills p limit (length b / 8) (whole c f s ca me h) i (omega (arith, z)) (rw i w))
+  pub begins-ill : h ≡ false → (limit ≡ 0 → ⊥) → wellState p (ofParts c f s ca me false) ≡ false → Begins p xs b limit c f h s ca me (ending c f limit 0 2 34)
+  begins-ill i z w = at-once limit 2 34 refl i refl (ills p limit (length b / 8) (ofParts c f s ca me h) i (omega (arith, z)) (rw i w))
 
 -- a fresh array knows nothing
 nothing : (p : Program) (xs targets : List ℕ) → Known p xs (replicate knownLimit unknown) targets
@@ -80,9 +80,9 @@ unfolding nameIn
 outside image h = rw (lt-leb (0xFFFFFFFFFFFFFFFF + 0xFFFFFFFFFFFFFFFF) (length image) (omega arith)) refl
 
 -- a run that makes steps
-pub begins-on : (image xs : List ℕ) (labels : List Label) (count : ℕ) (b : List ℕ) (limit : ℕ) (c : Core) (f : ℕ) (h : Bool) (s ca me : List ℕ) → length image < 2 ^ 64 →
+pub begins-on : (image xs : List ℕ) (labels : List Label) (count : ℕ) (b : List ℕ) (limit : ℕ) (c : Registers) (f : ℕ) (h : Bool) (s ca me : List ℕ) → length image < 2 ^ 64 →
     h ≡ false → Inside c → count * 32 ≤ length xs →
-    Begins (lent image (instsOf xs) labels count) xs b limit c f h s ca me (asking c f limit 0 0xFFFFFFFFFFFFFFFF 0xFFFFFFFFFFFFFFFF)
+    Begins (lentProgram image (instsOf xs) labels count) xs b limit c f h s ca me (asking c f limit 0 0xFFFFFFFFFFFFFFFF 0xFFFFFFFFFFFFFFFF)
 begins-on image xs labels count b limit c f h s ca me fits i small inside =
     let z : limit - limit ≡ 0 = omega arith in
     record {
@@ -105,7 +105,7 @@ begins-on image xs labels count b limit c f h s ca me fits i small inside =
 
 -- what a run reports
 pub reports : (p : Program) (m : Machine) (limit : ℕ) (b : List ℕ) (o : Progress) (b' s ca me : List ℕ) → Reaches (course p limit (length b / 8) m) limit b o b' s ca me →
-    record { machine = whole (o .core) (o .flags) s ca me (eqb (o .ending) 0); ending = endingOf (o .ending) (o .number); steps = limit - o .left; dumped = o .dumped; buffer = b' } ≡ runBytes p limit b m
+    record { machine = ofParts (o .registers) (o .flags) s ca me (eqb (o .ending) 0); ending = endingOf (o .ending) (o .number); steps = limit - o .left; dumped = o .dumped; buffer = b' } ≡ runBytes p limit b m
 unfolding runBytes
 reports p m limit b o b' s ca me r =
     let long' = length-numbers-in b' in
@@ -118,7 +118,7 @@ pub answers : (p : Program) (m : Machine) (limit : ℕ) (b : List ℕ) (o : Prog
 answers p m limit b o b' s ca me r =
     let l : o .left ≡ limit - (limit - o .left) = omega (arith, r .fewer) in
     r .shape
-    ∙ ap (λ (n : ℕ). over (o .core) (o .flags) n (o .dumped) (endingOf (o .ending) (o .number))) l
+    ∙ ap (λ (n : ℕ). over (o .registers) (o .flags) n (o .dumped) (endingOf (o .ending) (o .number))) l
     ∙ ap (progressOf limit) (reports p m limit b o b' s ca me r)
 
 -- no more steps are left than the limit has

@@ -10,18 +10,18 @@ use Rattle.inst.proofs.Laws.{never}
 use Rattle.machine.specs.declared.Label.{Label}
 use Rattle.machine.specs.Lookup.{lookup}
 use Rattle.machine.specs.Run.{Course}
-use Rattle.tables.specs.Tables.{instsOf}
-use Rattle.step_core.specs.declared.Core.{Core}
+use Rattle.tables.specs.Tables.{instsOf, instOf}
+use Rattle.step_core.specs.declared.Registers.{Registers}
 use Rattle.step_core.specs.declared.LookedUp.{LookedUp}
 use Rattle.step_core.specs.declared.LookedUp.the-variants.{NotAsked}
-use Rattle.step_core.specs.Parts.{whole, Inside, foundOf, isAsked}
-use Rattle.lookup.specs.Walks.{lent}
+use Rattle.step_core.specs.Parts.{ofParts, Inside, foundOf, isAsked}
+use Rattle.lookup.specs.Walks.{lentProgram}
 use Rattle.quick.specs.declared.Reached.{Reached}
-use Rattle.known.specs.Known.{instOf, Sized, Listed}
+use Rattle.known.specs.Known.{Sized, Listed}
 use Rattle.quick.specs.Courses as quick
 use Rattle.step.specs.declared.Tried.{Tried}
 use Rattle.step.specs.declared.Tried.the-variants.{Done, Asks}
-use Rattle.step.specs.Steps.{Told, Tries}
+use Rattle.step.specs.Steps.{Arrays, arrays, Told, Tries}
 use Rattle.run.specs.declared.progress.Progress.{Progress}
 use Rattle.run.specs.declared.follows.Turn.{Turn}
 use Rattle.run.specs.declared.follows.Turn.the-variants.{Go, End}
@@ -34,8 +34,8 @@ abbrev first : ℕ → LookedUp → ℕ
 first left asked = left + cond (isAsked asked) 1 2
 
 -- From c₀, f₀ and so on, at which `asked` was found, the loop has come to c, f and so on. Whatever the labels are: if the run stood there, it stands here
-pub record Loops (image xs : List ℕ) (count : ℕ) (c₀ : Core) (f₀ left₀ n₀ : ℕ) (asked : LookedUp) (b₀ keys₀ targets₀ s₀ ca₀ me₀ : List ℕ)
-    (c : Core) (f left n : ℕ) (found : LookedUp) (b keys targets s ca me : List ℕ) : Type 0 where
+pub record Loops (image xs : List ℕ) (count : ℕ) (c₀ : Registers) (f₀ left₀ n₀ : ℕ) (asked : LookedUp) (b₀ keys₀ targets₀ s₀ ca₀ me₀ : List ℕ)
+    (c : Registers) (f left n : ℕ) (found : LookedUp) (b keys targets s ca me : List ℕ) : Type 0 where
   pub small : Inside c
   pub filled : n * 8 ≤ length b
   pub long : length b ≡ length b₀
@@ -44,20 +44,20 @@ pub record Loops (image xs : List ℕ) (count : ℕ) (c₀ : Core) (f₀ left₀
   pub fewer : left ≤ left₀
   pub lighter : isAsked found ≡ false → left + 1 < first left₀ asked
   pub runs : (labels : List Label) (buffer : List ℕ) (limit : ℕ) (run : Course) →
-      Running (lent image (instsOf xs) labels count) xs buffer limit run c₀ f₀ left₀ n₀ b₀ keys₀ targets₀ s₀ ca₀ me₀ →
-      Told (lent image (instsOf xs) labels count) xs (c₀ .ip) asked →
-      Running (lent image (instsOf xs) labels count) xs buffer limit run c f left n b keys targets s ca me × Told (lent image (instsOf xs) labels count) xs (c .ip) found
+      Running (lentProgram image (instsOf xs) labels count) xs buffer limit run c₀ f₀ left₀ n₀ b₀ keys₀ targets₀ s₀ ca₀ me₀ →
+      Told (lentProgram image (instsOf xs) labels count) xs (c₀ .ip) asked →
+      Running (lentProgram image (instsOf xs) labels count) xs buffer limit run c f left n b keys targets s ca me × Told (lentProgram image (instsOf xs) labels count) xs (c .ip) found
 
 -- it ended with r
-pub record Stops (image xs : List ℕ) (count : ℕ) (c₀ : Core) (f₀ left₀ n₀ : ℕ) (asked : LookedUp) (b₀ keys₀ targets₀ s₀ ca₀ me₀ : List ℕ)
+pub record Stops (image xs : List ℕ) (count : ℕ) (c₀ : Registers) (f₀ left₀ n₀ : ℕ) (asked : LookedUp) (b₀ keys₀ targets₀ s₀ ca₀ me₀ : List ℕ)
     (r : Progress) (b keys targets s ca me : List ℕ) : Type 0 where
   pub stops : (labels : List Label) (buffer : List ℕ) (limit : ℕ) (run : Course) →
-      Running (lent image (instsOf xs) labels count) xs buffer limit run c₀ f₀ left₀ n₀ b₀ keys₀ targets₀ s₀ ca₀ me₀ →
-      Told (lent image (instsOf xs) labels count) xs (c₀ .ip) asked →
-      Stands (lent image (instsOf xs) labels count) xs buffer limit run r b keys targets s ca me
+      Running (lentProgram image (instsOf xs) labels count) xs buffer limit run c₀ f₀ left₀ n₀ b₀ keys₀ targets₀ s₀ ca₀ me₀ →
+      Told (lentProgram image (instsOf xs) labels count) xs (c₀ .ip) asked →
+      Stands (lentProgram image (instsOf xs) labels count) xs buffer limit run r b keys targets s ca me
       × (r .on ≡ true → (nameIn image (r .start) (r .len) ≡ true) × (r .left + 1 < first left₀ asked))
 
-not-go : {on : Core} {g n : ℕ} {o : Progress} → Go on g n ≡ End o → ⊥
+not-go : {on : Registers} {g n : ℕ} {o : Progress} → Go on g n ≡ End o → ⊥
 not-go e = let z : _≡_ {A = ℕ} 0 1 = cc in omega arith
 
 end-of : {o o' : Progress} → End o ≡ End o' → o ≡ o'
@@ -68,8 +68,8 @@ end-of {o} {o'} e = ap of e
     of (Go c g n) = o
 
 -- what a turn's answer says
-module _ {c : Core} {f left n : ℕ} {b b' : List ℕ} where
-  pub go-small : (t : Tried) {on : Core} {g n' : ℕ} → FollowsTry t c f left n b b' (Go on g n') → Inside on
+module _ {c : Registers} {f left n : ℕ} {b b' : List ℕ} where
+  pub go-small : (t : Tried) {on : Registers} {g n' : ℕ} → FollowsTry t c f left n b b' (Go on g n') → Inside on
   go-small (Done a) q = q .followed .followed .1
   go-small (Asks start len) q = absurd (not-go (q .followed .0))
 
@@ -78,7 +78,7 @@ module _ {c : Core} {f left n : ℕ} {b b' : List ℕ} where
   end-long (Asks start len) q = ap length (q .followed .1)
 
 module _ {image xs : List ℕ} {count : ℕ} where
-  pub loop-starts : (c : Core) (f left n : ℕ) (asked : LookedUp) (b keys targets s ca me : List ℕ) → Inside c → n * 8 ≤ length b → Sized keys targets →
+  pub loop-starts : (c : Registers) (f left n : ℕ) (asked : LookedUp) (b keys targets s ca me : List ℕ) → Inside c → n * 8 ≤ length b → Sized keys targets →
       Listed xs keys targets →
       Loops image xs count c f left n asked b keys targets s ca me c f left n asked b keys targets s ca me
   loop-starts c f left n asked b keys targets s ca me small filled sized listed =
@@ -93,7 +93,7 @@ module _ {image xs : List ℕ} {count : ℕ} where
         runs = λ labels buffer limit run r told. (r, told);
       }
 
-  module _ {c₀ : Core} {f₀ left₀ n₀ : ℕ} {asked : LookedUp} {b₀ keys₀ targets₀ s₀ ca₀ me₀ : List ℕ} {c : Core} {f left n : ℕ} {found : LookedUp} {b keys targets s ca me : List ℕ}
+  module _ {c₀ : Registers} {f₀ left₀ n₀ : ℕ} {asked : LookedUp} {b₀ keys₀ targets₀ s₀ ca₀ me₀ : List ℕ} {c : Registers} {f left n : ℕ} {found : LookedUp} {b keys targets s ca me : List ℕ}
       (inv : Loops image xs count c₀ f₀ left₀ n₀ asked b₀ keys₀ targets₀ s₀ ca₀ me₀ c f left n found b keys targets s ca me) where
     some-weight : left < first left₀ asked
     some-weight = by (isAsked asked)
@@ -109,10 +109,10 @@ module _ {image xs : List ℕ} {count : ℕ} where
 
     module _ (l : 0 < left) {keys' targets' s' ca' me' b' : List ℕ} where
       -- a step, and the known ones behind it
-      pub loop-on : (t : Tried) {on : Core} {g n' : ℕ} {r : Reached} {s2 ca2 me2 : List ℕ} →
-          Tries image xs count c f found keys targets s ca me t keys' targets' s' ca' me' → FollowsTry t c f left n b b' (Go on g n') →
-          quick.Leads xs keys' targets' (whole on g s' ca' me' false) (left - 1) r s2 ca2 me2 →
-          Loops image xs count c₀ f₀ left₀ n₀ asked b₀ keys₀ targets₀ s₀ ca₀ me₀ (r .core) (r .flags) (r .left) n' NotAsked b' keys' targets' s2 ca2 me2
+      pub loop-on : (t : Tried) {on : Registers} {g n' : ℕ} {r : Reached} {s2 ca2 me2 : List ℕ} →
+          Tries image xs count c f found (arrays keys targets s ca me) t (arrays keys' targets' s' ca' me') → FollowsTry t c f left n b b' (Go on g n') →
+          quick.Leads xs keys' targets' (ofParts on g s' ca' me' false) (left - 1) r s2 ca2 me2 →
+          Loops image xs count c₀ f₀ left₀ n₀ asked b₀ keys₀ targets₀ s₀ ca₀ me₀ (r .registers) (r .flags) (r .left) n' NotAsked b' keys' targets' s2 ca2 me2
       loop-on (Asks start len) tries q k = absurd (not-go (q .followed .0))
       loop-on (Done a) tries q k =
           let fills = q .followed .followed .2 in
@@ -132,7 +132,7 @@ module _ {image xs : List ℕ} {count : ℕ} where
 
       -- a step, and the end; or a question
       pub loop-stops : (t : Tried) {o : Progress} →
-          Tries image xs count c f found keys targets s ca me t keys' targets' s' ca' me' → FollowsTry t c f left n b b' (End o) →
+          Tries image xs count c f found (arrays keys targets s ca me) t (arrays keys' targets' s' ca' me') → FollowsTry t c f left n b b' (End o) →
           Stops image xs count c₀ f₀ left₀ n₀ asked b₀ keys₀ targets₀ s₀ ca₀ me₀ o b' keys' targets' s' ca' me'
       loop-stops (Done a) tries q =
           record {
@@ -146,23 +146,23 @@ module _ {image xs : List ℕ} {count : ℕ} where
             stops = λ labels buffer limit run r told.
                 let now = inv .runs labels buffer limit run r told in
                 let asks = tries .tried labels (now .1) in (
-                  rw (asks .3, asks .4, asks .5, asks .6, asks .7) (record { running = λ e. now .0; named = λ e g. asks .2; reached = λ e. never (sym e) }),
+                  let same = asks .3 in rw (ap (λ (x : Arrays). x .keys) same, ap (λ (x : Arrays). x .targets) same, ap (λ (x : Arrays). x .stack) same, ap (λ (x : Arrays). x .calls) same, ap (λ (x : Arrays). x .memory) same) (record { running = λ e. now .0; named = λ e g. asks .2; reached = λ e. never (sym e) }),
                   λ e. (asks .1, inv .lighter (asks .0)),
                 );
           })
 
   -- the contract of `steps`
   pub advances : {o : Progress} {asked : LookedUp} {b keys targets s ca me : List ℕ} {r : Progress} {b' keys' targets' s' ca' me' : List ℕ} →
-      Stops image xs count (o .core) (o .flags) (o .left) (o .dumped) asked b keys targets s ca me r b' keys' targets' s' ca' me' →
-      Advances image xs count o asked b keys targets s ca me r b' keys' targets' s' ca' me'
+      Stops image xs count (o .registers) (o .flags) (o .left) (o .dumped) asked b keys targets s ca me r b' keys' targets' s' ca' me' →
+      Advances image xs count o asked b (arrays keys targets s ca me) r b' (arrays keys' targets' s' ca' me')
   advances {o} {asked} {b} {keys} {targets} {s} {ca} {me} {r} q labels buffer limit run on st fd =
       record { stands = q .stops labels buffer limit run (st .running on) told .0; falls = by (nameIn image (o .start) (o .len)) (r .on) refl refl }
     where
-      which : isAsked asked ≡ true → (x : Bool) → nameIn image (o .start) (o .len) ≡ x → foundOf asked ≡ lookup (lent image (instsOf xs) labels count) (instOf xs (o .core .ip))
+      which : isAsked asked ≡ true → (x : Bool) → nameIn image (o .start) (o .len) ≡ x → foundOf asked ≡ lookup (lentProgram image (instsOf xs) labels count) (instOf xs (o .registers .ip))
       which some true e = let n = st .named on e in rw (n .0, n .1) (fd .found e _ _)
       which some false e = never (sym (ap isAsked (fd .outside e)) ∙ some)
 
-      told : Told (lent image (instsOf xs) labels count) xs (o .core .ip) asked
+      told : Told (lentProgram image (instsOf xs) labels count) xs (o .registers .ip) asked
       told some = which some (nameIn image (o .start) (o .len)) refl
 
       by : (x y : Bool) → nameIn image (o .start) (o .len) ≡ x → r .on ≡ y → weight image r < weight image o

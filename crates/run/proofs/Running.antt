@@ -11,9 +11,9 @@ use Rattle.machine.specs.Lookup.{Program}
 use Rattle.machine.specs.Step.{step}
 use Rattle.machine.specs.Run.{Course, course}
 use Rattle.tables.specs.Tables.{numbersIn}
-use Rattle.step_core.specs.declared.Core.{Core}
+use Rattle.step_core.specs.declared.Registers.{Registers}
 use Rattle.step_core.specs.declared.Executed.{Executed}
-use Rattle.step_core.specs.Parts.{whole, means}
+use Rattle.step_core.specs.Parts.{ofParts, means}
 use Rattle.quick.specs.declared.Reached.{Reached}
 use Rattle.known.specs.Known.{Known, Sized}
 use Rattle.quick.specs.Courses as quick
@@ -25,7 +25,7 @@ use Rattle.run.specs.Turns.{more, closed, turned, Follows, ending, IsOve
 use Rattle.run.specs.Runs.{Running, Reaches, Stands, Ready}
 use Rattle.run.proofs.Courses.{more-plus, more-ended, spends, resting}
 
-module _ {p : Program} {xs b₀ : List ℕ} {limit : ℕ} {run : Course} {c : Core} {f left n : ℕ} {b keys targets s ca me : List ℕ}
+module _ {p : Program} {xs b₀ : List ℕ} {limit : ℕ} {run : Course} {c : Registers} {f left n : ℕ} {b keys targets s ca me : List ℕ}
     (inv : Running p xs b₀ limit run c f left n b keys targets s ca me) where
   -- no step is left
   pub is-over : left ≡ 0 → Reaches run limit b₀ (ending c f 0 n 1 0) b s ca me
@@ -33,8 +33,8 @@ module _ {p : Program} {xs b₀ : List ℕ} {limit : ℕ} {run : Course} {c : Co
       let e : limit - 0 ≡ limit - left + 0 = omega arith in
       record {
         is = ap (λ (k : ℕ). closed k (ending c f 0 n 1 0) b s ca me) e
-            ∙ sym (more-ended (limit - left) 0 (take n (numbersIn b)) Limit (whole c f s ca me false) refl)
-            ∙ ap (more (limit - left) (take n (numbersIn b))) (sym (spends p left (length b₀ / 8 - n) (whole c f s ca me false) refl z))
+            ∙ sym (more-ended (limit - left) 0 (take n (numbersIn b)) Limit (ofParts c f s ca me false) refl)
+            ∙ ap (more (limit - left) (take n (numbersIn b))) (sym (spends p left (length b₀ / 8 - n) (ofParts c f s ca me false) refl z))
             ∙ inv .is;
         long = inv .long;
         written = inv .written;
@@ -44,13 +44,13 @@ module _ {p : Program} {xs b₀ : List ℕ} {limit : ℕ} {run : Course} {c : Co
       }
 
   -- known steps
-  pub known-on : {r : Reached} {s' ca' me' : List ℕ} → quick.Leads xs keys targets (whole c f s ca me false) left r s' ca' me' →
-      Running p xs b₀ limit run (r .core) (r .flags) (r .left) n b keys targets s' ca' me'
+  pub known-on : {r : Reached} {s' ca' me' : List ℕ} → quick.Leads xs keys targets (ofParts c f s ca me false) left r s' ca' me' →
+      Running p xs b₀ limit run (r .registers) (r .flags) (r .left) n b keys targets s' ca' me'
   known-on {r} {s'} {ca'} {me'} q =
       let e : limit - left + (left - r .left) ≡ limit - r .left = omega (arith, inv .fewer, q .fewer) in
       record {
-        is = ap (λ (k : ℕ). more k (take n (numbersIn b)) (course p (r .left) (length b₀ / 8 - n) (whole (r .core) (r .flags) s' ca' me' false))) (sym e)
-            ∙ sym (more-plus (limit - left) (left - r .left) (take n (numbersIn b)) (course p (r .left) (length b₀ / 8 - n) (whole (r .core) (r .flags) s' ca' me' false)))
+        is = ap (λ (k : ℕ). more k (take n (numbersIn b)) (course p (r .left) (length b₀ / 8 - n) (ofParts (r .registers) (r .flags) s' ca' me' false))) (sym e)
+            ∙ sym (more-plus (limit - left) (left - r .left) (take n (numbersIn b)) (course p (r .left) (length b₀ / 8 - n) (ofParts (r .registers) (r .flags) s' ca' me' false)))
             ∙ ap (more (limit - left) (take n (numbersIn b))) (q .leads p (inv .over) (inv .known) (length b₀ / 8 - n))
             ∙ inv .is;
         small = q .small;
@@ -63,14 +63,14 @@ module _ {p : Program} {xs b₀ : List ℕ} {limit : ℕ} {run : Course} {c : Co
         sized = inv .sized;
       }
 
-  module _ (l : 0 < left) {a : Executed} {s' ca' me' : List ℕ} (made : Made (step p (whole c f s ca me false)) f s ca me a s' ca' me') where
-    stepped : more (limit - left) (take n (numbersIn b)) (turned (whole c f s ca me false) (course p (left - 1)) left (length b / 8 - n) (means f a s' ca' me')) ≡ run
+  module _ (l : 0 < left) {a : Executed} {s' ca' me' : List ℕ} (made : Made (step p (ofParts c f s ca me false)) f s ca me a s' ca' me') where
+    stepped : more (limit - left) (take n (numbersIn b)) (turned (ofParts c f s ca me false) (course p (left - 1)) left (length b / 8 - n) (means f a s' ca' me')) ≡ run
     stepped =
         rw (inv .long, made .does)
-        (ap (more (limit - left) (take n (numbersIn b))) (sym (course-turn p left (length b₀ / 8 - n) (whole c f s ca me false) l)) ∙ inv .is)
+        (ap (more (limit - left) (take n (numbersIn b))) (sym (course-turn p left (length b₀ / 8 - n) (ofParts c f s ca me false) l)) ∙ inv .is)
 
     -- a step, and on
-    pub went : {b' keys' targets' : List ℕ} → Sized keys' targets' → (Known p xs keys targets → Known p xs keys' targets') → {on : Core} {g n' : ℕ} →
+    pub went : {b' keys' targets' : List ℕ} → Sized keys' targets' → (Known p xs keys targets → Known p xs keys' targets') → {on : Registers} {g n' : ℕ} →
         Follows a c f left n b b' (Go on g n') → Running p xs b₀ limit run on g (left - 1) n' b' keys' targets' s' ca' me'
     went {b'} {keys'} {targets'} sz kn {on} {g} {n'} q =
         let e : limit - left + 1 ≡ limit - (left - 1) = omega (arith, inv .fewer) in

@@ -13,20 +13,20 @@ use Rattle.machine.specs.Lookup.{Program}
 use Rattle.machine.specs.Step.{wellState}
 use Rattle.machine.specs.Run.{Course, Result, course}
 use Rattle.tables.specs.Tables.{numbersIn, bytesOf, instsOf, program}
-use Rattle.step_core.specs.declared.Core.{Core}
+use Rattle.step_core.specs.declared.Registers.{Registers}
 use Rattle.step_core.specs.declared.LookedUp.{LookedUp}
-use Rattle.step_core.specs.Parts.{whole, Inside}
-use Rattle.lookup.specs.Walks.{lent, Finds}
+use Rattle.step_core.specs.Parts.{ofParts, Inside}
+use Rattle.lookup.specs.Walks.{lentProgram, Finds}
 use Rattle.known.specs.Known.{knownLimit, unknown, Known, Sized, Listed, Over}
-use Rattle.step.specs.Steps.{NamedAt}
+use Rattle.step.specs.Steps.{Arrays, NamedAt}
 use Rattle.run.specs.declared.progress.Progress.{Progress}
 use Rattle.run.specs.declared.Ran.{Ran}
 use Rattle.run.specs.Turns.{more, closed, endingOf, over, IsOver, Written}
 
 -- Of a run of p over the table xs with this limit and buffer: the limit less `left` steps led to the machine of c, f and the arrays, with n cells of
 -- the buffer filled, and what is known of the instructions is right
-pub record Running (p : Program) (xs b₀ : List ℕ) (limit : ℕ) (run : Course) (c : Core) (f left n : ℕ) (b keys targets s ca me : List ℕ) : Type 0 where
-  pub is : more (limit - left) (take n (numbersIn b)) (course p left (length b₀ / 8 - n) (whole c f s ca me false)) ≡ run
+pub record Running (p : Program) (xs b₀ : List ℕ) (limit : ℕ) (run : Course) (c : Registers) (f left n : ℕ) (b keys targets s ca me : List ℕ) : Type 0 where
+  pub is : more (limit - left) (take n (numbersIn b)) (course p left (length b₀ / 8 - n) (ofParts c f s ca me false)) ≡ run
   pub small : Inside c
   pub fewer : left ≤ limit
   pub filled : n * 8 ≤ length b
@@ -47,8 +47,8 @@ pub record Reaches (run : Course) (limit : ℕ) (b₀ : List ℕ) (o : Progress)
 
 -- The run goes on, and a name that it asks for is that of the instruction at the pointer; or it is over
 pub record Stands (p : Program) (xs b₀ : List ℕ) (limit : ℕ) (run : Course) (o : Progress) (b keys targets s ca me : List ℕ) : Type 0 where
-  pub running : o .on ≡ true → Running p xs b₀ limit run (o .core) (o .flags) (o .left) (o .dumped) b keys targets s ca me
-  pub named : o .on ≡ true → nameIn (p .image) (o .start) (o .len) ≡ true → NamedAt xs (o .core .ip) (o .start) (o .len)
+  pub running : o .on ≡ true → Running p xs b₀ limit run (o .registers) (o .flags) (o .left) (o .dumped) b keys targets s ca me
+  pub named : o .on ≡ true → nameIn (p .image) (o .start) (o .len) ≡ true → NamedAt xs (o .registers .ip) (o .start) (o .len)
   pub reached : o .on ≡ false → Reaches run limit b₀ o b s ca me
 
 -- Where a run that asks goes on with what was found it takes a step or ends. It asks for a name outside the image, so for nothing, before its first step
@@ -56,40 +56,40 @@ abbrev pub weight : List ℕ → Progress → ℕ
 weight image o = cond (o .on) (o .left + cond (nameIn image (o .start) (o .len)) 1 2) 0
 
 -- what `begin` gives for arrays that know nothing yet
-pub record Begins (p : Program) (xs b : List ℕ) (limit : ℕ) (c : Core) (f : ℕ) (h : Bool) (s ca me : List ℕ) (r : Progress) : Type 0 where
-  pub stands : Stands p xs b limit (course p limit (length b / 8) (whole c f s ca me h)) r b (replicate knownLimit unknown) (replicate knownLimit 0) s ca me
+pub record Begins (p : Program) (xs b : List ℕ) (limit : ℕ) (c : Registers) (f : ℕ) (h : Bool) (s ca me : List ℕ) (r : Progress) : Type 0 where
+  pub stands : Stands p xs b limit (course p limit (length b / 8) (ofParts c f s ca me h)) r b (replicate knownLimit unknown) (replicate knownLimit 0) s ca me
 
-abbrev pub Begun : List ℕ → ℕ → Core → ℕ → Bool → ℕ → Progress → Type 0
+abbrev pub Begun : List ℕ → ℕ → Registers → ℕ → Bool → ℕ → Progress → Type 0
 Begun xs count c f h limit r =
-    (image : List ℕ) (labels : List Label) (b s ca me : List ℕ) → length image < 2 ^ 64 → Begins (lent image (instsOf xs) labels count) xs b limit c f h s ca me r
+    (image : List ℕ) (labels : List Label) (b s ca me : List ℕ) → length image < 2 ^ 64 → Begins (lentProgram image (instsOf xs) labels count) xs b limit c f h s ca me r
 
 -- what `steps` requires: it doesn't depend on the labels
 pub record Ready (xs : List ℕ) (count : ℕ) (o : Progress) (b keys targets : List ℕ) : Type 0 where
-  pub small : Inside (o .core)
+  pub small : Inside (o .registers)
   pub inside : count * 32 ≤ length xs
   pub filled : o .dumped * 8 ≤ length b
   pub sized : Sized keys targets
   pub listed : Listed xs keys targets
 
 -- `steps` leads from o to r
-pub record Leads (p : Program) (xs b₀ : List ℕ) (limit : ℕ) (run : Course) (o r : Progress) (b keys targets s ca me : List ℕ) : Type 0 where
+pub record Proceeds (p : Program) (xs b₀ : List ℕ) (limit : ℕ) (run : Course) (o r : Progress) (b keys targets s ca me : List ℕ) : Type 0 where
   pub stands : Stands p xs b₀ limit run r b keys targets s ca me
   pub falls : weight (p .image) r < weight (p .image) o
 
 -- whatever the labels are, if `found` is what the lookup of the name asked for finds in them
-abbrev pub Advances : List ℕ → List ℕ → ℕ → Progress → LookedUp → List ℕ → List ℕ → List ℕ → List ℕ → List ℕ → List ℕ → Progress → List ℕ → List ℕ → List ℕ → List ℕ → List ℕ → List ℕ → Type 0
-Advances image xs count o found b keys targets s ca me r b' keys' targets' s' ca' me' =
+abbrev pub Advances : List ℕ → List ℕ → ℕ → Progress → LookedUp → List ℕ → Arrays → Progress → List ℕ → Arrays → Type 0
+Advances image xs count o found b a r b' a' =
     (labels : List Label) (b₀ : List ℕ) (limit : ℕ) (run : Course) →
     o .on ≡ true →
-    Stands (lent image (instsOf xs) labels count) xs b₀ limit run o b keys targets s ca me →
-    Finds (lent image (instsOf xs) labels count) (o .start) (o .len) found →
-    Leads (lent image (instsOf xs) labels count) xs b₀ limit run o r b' keys' targets' s' ca' me'
+    Stands (lentProgram image (instsOf xs) labels count) xs b₀ limit run o b (a .keys) (a .targets) (a .stack) (a .calls) (a .memory) →
+    Finds (lentProgram image (instsOf xs) labels count) (o .start) (o .len) found →
+    Proceeds (lentProgram image (instsOf xs) labels count) xs b₀ limit run o r b' (a' .keys) (a' .targets) (a' .stack) (a' .calls) (a' .memory)
 
 -- 34 before the first step, but for the pointer and the record: no step changes it
-pub record Fit (xs : List ℕ) (count : ℕ) (c : Core) (r : Bool) : Type 0 where
+pub record Fit (xs : List ℕ) (count : ℕ) (c : Registers) (r : Bool) : Type 0 where
   pub well : r ≡ false → Inside c × (count * 32 ≤ length xs)
   pub unwell : r ≡ true → (image : List ℕ) (labels : List Label) (f : ℕ) (s ca me : List ℕ) →
-      wellState (lent image (instsOf xs) labels count) (whole c f s ca me false) ≡ false
+      wellState (lentProgram image (instsOf xs) labels count) (ofParts c f s ca me false) ≡ false
 
 -- Document 01's run over a lent buffer of bytes, eight a cell: the cells fill it from its front, and the rest of it, bytes left over at its end too, is unchanged
 unfoldable pub runBytes : Program → ℕ → List ℕ → Machine → Result
@@ -106,7 +106,7 @@ progressOf limit r =
 -- that are left
 pub record ExecuteParts (image insts labels : List ℕ) (count : ℕ) (m : Machine) (limit : ℕ) (dumps : List ℕ) (r : Progress) (s ca me dumps′ : List ℕ) : Type 0 where
   pub answers : r ≡ progressOf limit (runBytes (program image insts labels count) limit dumps m)
-  pub gives : record { machine = whole (r .core) (r .flags) s ca me (eqb (r .ending) 0); ending = endingOf (r .ending) (r .number); steps = limit - r .left; dumped = r .dumped; buffer = dumps′ } ≡ runBytes (program image insts labels count) limit dumps m
+  pub gives : record { machine = ofParts (r .registers) (r .flags) s ca me (eqb (r .ending) 0); ending = endingOf (r .ending) (r .number); steps = limit - r .left; dumped = r .dumped; buffer = dumps′ } ≡ runBytes (program image insts labels count) limit dumps m
 
 -- what a run's answer says
 abbrev pub answer : Ran → List ℕ → Result

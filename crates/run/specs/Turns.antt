@@ -12,9 +12,9 @@ use Rattle.machine.specs.declared.Ending.the-variants.{Halted, Limit, Number}
 use Rattle.machine.specs.Step.{Stepped}
 use Rattle.machine.specs.Run.{Course, ended, before, turn}
 use Rattle.tables.specs.Tables.{numbersIn, bytesOf}
-use Rattle.step_core.specs.declared.Core.{Core}
+use Rattle.step_core.specs.declared.Registers.{Registers}
 use Rattle.step_core.specs.declared.Executed.{Executed}
-use Rattle.step_core.specs.Parts.{whole, means, Inside, Untaken}
+use Rattle.step_core.specs.Parts.{ofParts, means, Inside, Untaken}
 use Rattle.step.specs.declared.Tried.{Tried}
 use Rattle.step.specs.declared.Tried.the-variants.{Done, Asks}
 use Rattle.run.specs.declared.progress.Progress.{Progress}
@@ -43,20 +43,20 @@ besideOf (Number n) = n
 -- the course of a run that is over, after this many steps
 abbrev pub closed : ℕ → Progress → List ℕ → List ℕ → List ℕ → List ℕ → Course
 closed steps o b s ca me =
-    record { machine = whole (o .core) (o .flags) s ca me (eqb (o .ending) 0); ending = endingOf (o .ending) (o .number); steps = steps; cells = take (o .dumped) (numbersIn b) }
+    record { machine = ofParts (o .registers) (o .flags) s ca me (eqb (o .ending) 0); ending = endingOf (o .ending) (o .number); steps = steps; cells = take (o .dumped) (numbersIn b) }
 
 -- a run that is over
-abbrev pub ending : Core → ℕ → ℕ → ℕ → ℕ → ℕ → Progress
-ending c f left n kind number = record { core = c; flags = f; left = left; dumped = n; on = false; start = 0; len = 0; ending = kind; number = number }
+abbrev pub ending : Registers → ℕ → ℕ → ℕ → ℕ → ℕ → Progress
+ending c f left n kind number = record { registers = c; flags = f; left = left; dumped = n; on = false; start = 0; len = 0; ending = kind; number = number }
 
 -- the same with an ending as the definition has it, which leaves nothing else open
-abbrev pub over : Core → ℕ → ℕ → ℕ → Ending → Progress
+abbrev pub over : Registers → ℕ → ℕ → ℕ → Ending → Progress
 over c f left n e =
-    record { core = c; flags = f; left = left; dumped = n; on = false; start = 0; len = 0; ending = kindOf e; number = besideOf e }
+    record { registers = c; flags = f; left = left; dumped = n; on = false; start = 0; len = 0; ending = kindOf e; number = besideOf e }
 
 -- o is over
 abbrev pub IsOver : Progress → Type 0
-IsOver o = o ≡ over (o .core) (o .flags) (o .left) (o .dumped) (endingOf (o .ending) (o .number))
+IsOver o = o ≡ over (o .registers) (o .flags) (o .left) (o .dumped) (endingOf (o .ending) (o .number))
 
 -- with so many steps and so much room left, the turn that m takes by the step st
 abbrev pub turned : Machine → (ℕ → Machine → Course) → ℕ → ℕ → Stepped → Course
@@ -77,30 +77,30 @@ pub record Fills (n : ℕ) (b : List ℕ) (n' : ℕ) (b' : List ℕ) : Type 0 wh
   pub written : (b₀ : List ℕ) → Written n b₀ b → Written n' b₀ b'
 
 -- behind a step from c and f whose answer is a, with n cells of the buffer b filled: on with `rest`, or the end
-abbrev pub Followed : Executed → Core → ℕ → ℕ → ℕ → List ℕ → List ℕ → Turn → Type 0
+abbrev pub Followed : Executed → Registers → ℕ → ℕ → ℕ → List ℕ → List ℕ → Turn → Type 0
 Followed a c f left n b b' (Go on g n') =
     ((s ca me s' ca' me' : List ℕ) (rest : ℕ → Machine → Course) (k : ℕ) → Untaken a ((s' ≡ s) × (ca' ≡ ca) × (me' ≡ me)) →
-    more k (take n (numbersIn b)) (turned (whole c f s ca me false) rest left (length b / 8 - n) (means f a s' ca' me')) ≡ more (k + 1) (take n' (numbersIn b')) (rest (length b / 8 - n') (whole on g s' ca' me' false)))
+    more k (take n (numbersIn b)) (turned (ofParts c f s ca me false) rest left (length b / 8 - n) (means f a s' ca' me')) ≡ more (k + 1) (take n' (numbersIn b')) (rest (length b / 8 - n') (ofParts on g s' ca' me' false)))
     × Inside on
     × Fills n b n' b'
 Followed a c f left n b b' (End o) =
     ((s ca me s' ca' me' : List ℕ) (rest : ℕ → Machine → Course) (k : ℕ) → Rests rest → Untaken a ((s' ≡ s) × (ca' ≡ ca) × (me' ≡ me)) →
-    more k (take n (numbersIn b)) (turned (whole c f s ca me false) rest left (length b / 8 - n) (means f a s' ca' me')) ≡ closed (k + (left - o .left)) o b' s' ca' me')
+    more k (take n (numbersIn b)) (turned (ofParts c f s ca me false) rest left (length b / 8 - n) (means f a s' ca' me')) ≡ closed (k + (left - o .left)) o b' s' ca' me')
     × (o .left ≤ left)
     × IsOver o
     × Fills n b (o .dumped) b'
 
-pub record Follows (a : Executed) (c : Core) (f left n : ℕ) (b b' : List ℕ) (r : Turn) : Type 0 where
+pub record Follows (a : Executed) (c : Registers) (f left n : ℕ) (b b' : List ℕ) (r : Turn) : Type 0 where
   pub followed : Followed a c f left n b b' r
 
 -- a run that asks for the lookup of a name
-abbrev pub asking : Core → ℕ → ℕ → ℕ → ℕ → ℕ → Progress
-asking c f left n start len = record { core = c; flags = f; left = left; dumped = n; on = true; start = start; len = len; ending = 0; number = 0 }
+abbrev pub asking : Registers → ℕ → ℕ → ℕ → ℕ → ℕ → Progress
+asking c f left n start len = record { registers = c; flags = f; left = left; dumped = n; on = true; start = start; len = len; ending = 0; number = 0 }
 
 -- the same behind a step that was tried: where it asks, so does the run
-abbrev pub FollowsTried : Tried → Core → ℕ → ℕ → ℕ → List ℕ → List ℕ → Turn → Type 0
+abbrev pub FollowsTried : Tried → Registers → ℕ → ℕ → ℕ → List ℕ → List ℕ → Turn → Type 0
 FollowsTried (Done a) c f left n b b' r = Follows a c f left n b b' r
 FollowsTried (Asks start len) c f left n b b' r = (r ≡ End (asking c f left n start len)) × (b' ≡ b)
 
-pub record FollowsTry (t : Tried) (c : Core) (f left n : ℕ) (b b' : List ℕ) (r : Turn) : Type 0 where
+pub record FollowsTry (t : Tried) (c : Registers) (f left n : ℕ) (b b' : List ℕ) (r : Turn) : Type 0 where
   pub followed : FollowsTried t c f left n b b' r

@@ -7,32 +7,36 @@ ghost use Rattle.word.specs.Words.{eightOf};
 ghost use Rattle.step_core.specs.Parts.{Small};
 ghost use Rattle.step.specs.Steps.{SmallTried};
 ghost use Rattle.run.specs.Turns.{Follows, FollowsTry};
+use crate::progress::BUFFER_FULL;
 use crate::progress::HALTED;
+use crate::progress::ILL_STATE;
 use crate::progress::NUMBER;
 use crate::progress::Progress;
-use crate::progress::asks;
-use crate::progress::ends;
 use step::Tried;
-use step_core::Core;
 use step_core::Executed;
+use step_core::Registers;
 use tables::NUMBER as CELL;
 use tables::put_number;
 
 // After a step: on with the next, its flags and the cells dumped so far; or the run stops here.
 pub enum Turn {
-    Go(Core, u8, usize),
+    Go {
+        registers: Registers,
+        flags: u8,
+        dumped: usize,
+    },
     End(Progress),
 }
 
 // The same numbers, each by itself: copied as a whole out of one of several answers they go through memory, and the processor
 // waits for it (6 ns a dump).
-fn anew(core: Core) -> Core
-    ensures { λ r. ⌜ r ≡ core ⌝ }
+fn anew(registers: Registers) -> Registers
+    ensures { λ r. ⌜ r ≡ registers ⌝ }
 {
-    Core {
-        ip: core.ip,
-        height: core.height,
-        call_height: core.call_height,
+    Registers {
+        ip: registers.ip,
+        height: registers.height,
+        call_height: registers.call_height,
     }
 }
 
@@ -44,44 +48,79 @@ fn dump_cell(room: &mut [u8], cell: u64)
     put_number(room, 0, cell);
 }
 
-// What an executed step comes to for a run that was at core with so many steps left and n cells dumped. 34 and 33 count
+// What an executed step comes to for a run that was at registers with so many steps left and n cells dumped. 34 and 33 count
 // no step and change nothing, a trap counts and ends the run.
 fn follow_executed(
     answer: Executed,
-    core: Core,
+    registers: Registers,
     flags: u8,
     left: u64,
     n: usize,
     dumps: &mut [u8],
 ) -> Turn
     requires { ⌜ (0 < left) × (n * 8 ≤ length (now dumps)) × Small answer ⌝ }
-    ensures { λ r. ⌜ Follows answer core flags left n (now (dumps .entry)) (now (dumps .exit)) r ⌝ }
+    ensures { λ r. ⌜ Follows answer registers flags left n (now (dumps .entry)) (now (dumps .exit)) r ⌝ }
 {
     let after = left - 1;
     match answer {
-        Executed::Next(next) => Turn::Go(anew(next), flags, n),
-        Executed::Compared(next, g) => Turn::Go(anew(next), g, n),
-        Executed::Dump(next, cell) => {
+        Executed::Next(next) => Turn::Go {
+            registers: anew(next),
+            flags: flags,
+            dumped: n,
+        },
+        Executed::Compared {
+            registers: next,
+            flags: g,
+        } => Turn::Go {
+            registers: anew(next),
+            flags: g,
+            dumped: n,
+        },
+        Executed::Dump {
+            registers: next,
+            cell,
+        } => {
             let at = n * CELL;
             if dumps.len() - at < CELL {
-                Turn::End(ends(core, flags, left, n, NUMBER, 33))
+                Turn::End(Progress::ends(registers, flags, left, n, NUMBER, BUFFER_FULL))
             } else {
                 dump_cell(&mut dumps[at..], cell);
-                Turn::Go(anew(next), flags, n + 1)
+                Turn::Go {
+                    registers: anew(next),
+                    flags: flags,
+                    dumped: n + 1,
+                }
             }
         }
-        Executed::Halt(last) => Turn::End(ends(last, flags, after, n, HALTED, 0)),
-        Executed::Trap(last, t) => Turn::End(ends(last, flags, after, n, NUMBER, t)),
-        Executed::Ill => Turn::End(ends(core, flags, left, n, NUMBER, 34)),
+        Executed::Halt(last) => Turn::End(Progress::ends(last, flags, after, n, HALTED, 0)),
+        Executed::Trap {
+            registers: last,
+            number,
+        } => Turn::End(Progress::ends(last, flags, after, n, NUMBER, number)),
+        Executed::Ill => Turn::End(Progress::ends(registers, flags, left, n, NUMBER, ILL_STATE)),
     }
 }
 
-pub fn follow(tried: Tried, core: Core, flags: u8, left: u64, n: usize, dumps: &mut [u8]) -> Turn
+pub fn follow(
+    tried: Tried,
+    registers: Registers,
+    flags: u8,
+    left: u64,
+    n: usize,
+    dumps: &mut [u8],
+) -> Turn
     requires { ⌜ (0 < left) × (n * 8 ≤ length (now dumps)) × SmallTried tried ⌝ }
-    ensures { λ r. ⌜ FollowsTry tried core flags left n (now (dumps .entry)) (now (dumps .exit)) r ⌝ }
+    ensures { λ r. ⌜ FollowsTry tried registers flags left n (now (dumps .entry)) (now (dumps .exit)) r ⌝ }
 {
     match tried {
-        Tried::Done(answer) => follow_executed(answer, core, flags, left, n, dumps),
-        Tried::Asks(start, len) => Turn::End(asks(core, flags, left, n, start, len)),
+        Tried::Done(answer) => follow_executed(answer, registers, flags, left, n, dumps),
+        Tried::Asks { start, len } => Turn::End(Progress::asks(
+            registers,
+            flags,
+            left,
+            n,
+            start,
+            len,
+        )),
     }
 }

@@ -4,7 +4,8 @@
 ghost use mathlib.Core.Path.{_≡_};
 ghost use Prim.Native.Nat.{_-_, _≤_};
 ghost use lib.Dec.{eqb};
-ghost use Rattle.step_core.specs.Parts.{whole};
+ghost use Rattle.step_core.specs.Parts.{ofParts};
+ghost use Rattle.step.specs.Steps.{arrays};
 ghost use Rattle.run.specs.Turns.{endingOf};
 ghost use Rattle.run.specs.Runs.{Begun, Ready, Advances, Fit, ExecuteParts, ExecuteProgram};
 
@@ -14,11 +15,10 @@ pub mod progress;
 use crate::follows::Turn;
 use crate::follows::follow;
 use crate::progress::HALTED;
+use crate::progress::ILL_STATE;
 use crate::progress::LIMIT;
 use crate::progress::NUMBER;
 use crate::progress::Progress;
-use crate::progress::asks;
-use crate::progress::ends;
 use inst::form_table;
 use known::KNOWN_LIMIT;
 use known::UNKNOWN;
@@ -30,8 +30,8 @@ use machine::Machine;
 use machine::STACK_LIMIT;
 use quick::run_known;
 use step::step;
-use step_core::Core;
 use step_core::LookedUp;
+use step_core::Registers;
 use tables::RECORD;
 
 // What a run returns.
@@ -46,13 +46,13 @@ pub struct Ran {
 const NO_NAME: u64 = 0xFFFFFFFFFFFFFFFF;
 
 // 34 before the first step, but for the pointer and the record: no step changes it.
-fn is_ill(insts: &[u8], count: usize, core: Core) -> bool
-    ensures { λ r. ⌜ Fit (now (insts .entry)) count core r ⌝ }
+fn is_ill(insts: &[u8], count: usize, registers: Registers) -> bool
+    ensures { λ r. ⌜ Fit (now (insts .entry)) count registers r ⌝ }
 {
-    if STACK_LIMIT < core.height {
+    if STACK_LIMIT < registers.height {
         return true;
     }
-    if CALL_LIMIT < core.call_height {
+    if CALL_LIMIT < registers.call_height {
         return true;
     }
     insts.len() / RECORD < count
@@ -62,28 +62,28 @@ fn is_ill(insts: &[u8], count: usize, core: Core) -> bool
 pub fn begin(
     insts: &[u8],
     count: usize,
-    core: Core,
+    registers: Registers,
     flags: u8,
     halted: bool,
     limit: u64,
 ) -> Progress
-    ensures { λ r. ⌜ Begun (now (insts .entry)) count core flags halted limit r ⌝ }
+    ensures { λ r. ⌜ Begun (now (insts .entry)) count registers flags halted limit r ⌝ }
 {
     if halted {
-        return ends(core, flags, limit, 0, HALTED, 0);
+        return Progress::ends(registers, flags, limit, 0, HALTED, 0);
     }
     if limit == 0 {
-        return ends(core, flags, 0, 0, LIMIT, 0);
+        return Progress::ends(registers, flags, 0, 0, LIMIT, 0);
     }
-    if is_ill(insts, count, core) {
-        return ends(core, flags, limit, 0, NUMBER, 34);
+    if is_ill(insts, count, registers) {
+        return Progress::ends(registers, flags, limit, 0, NUMBER, ILL_STATE);
     }
-    asks(core, flags, limit, 0, NO_NAME, NO_NAME)
+    Progress::asks(registers, flags, limit, 0, NO_NAME, NO_NAME)
 }
 
 // The steps of a run that goes on: one step as the definition has it, then the known ones, and so on until the run is over
 // or a name must be looked up. `asked` is what was found for the name that it asked for. The loop keeps:
-// - the limit less `left` steps lead to the machine of core, flags and the arrays, with dumps[..n] dumped;
+// - the limit less `left` steps lead to the machine of registers, flags and the arrays, with dumps[..n] dumped;
 // - heights are within their limits;
 // - what crate known says of keys and targets.
 pub fn steps(
@@ -100,10 +100,10 @@ pub fn steps(
     dumps: &mut [u8],
 ) -> Progress
     requires { ⌜ Ready (now insts) count from (now dumps) (now keys) (now targets) ⌝ }
-    ensures { λ r. ⌜ Advances (now (image .entry)) (now (insts .entry)) count from asked (now (dumps .entry)) (now (keys .entry)) (now (targets .entry)) (now (stack .entry)) (now (calls .entry)) (now (memory .entry)) r (now (dumps .exit)) (now (keys .exit)) (now (targets .exit)) (now (stack .exit)) (now (calls .exit)) (now (memory .exit)) ⌝ }
+    ensures { λ r. ⌜ Advances (now (image .entry)) (now (insts .entry)) count from asked (now (dumps .entry)) (arrays (now (keys .entry)) (now (targets .entry)) (now (stack .entry)) (now (calls .entry)) (now (memory .entry))) r (now (dumps .exit)) (arrays (now (keys .exit)) (now (targets .exit)) (now (stack .exit)) (now (calls .exit)) (now (memory .exit))) ⌝ }
 {
     let forms = form_table();
-    let mut core = from.core;
+    let mut registers = from.registers;
     let mut flags = from.flags;
     let mut left = from.left;
     let mut n = from.dumped;
@@ -117,15 +117,19 @@ pub fn steps(
             keys,
             targets,
             flags,
-            core,
+            registers,
             found,
             stack,
             calls,
             memory,
         );
-        let turn = follow(tried, core, flags, left, n, dumps);
+        let turn = follow(tried, registers, flags, left, n, dumps);
         match turn {
-            Turn::Go(next, g, dumped) => {
+            Turn::Go {
+                registers: next,
+                flags: g,
+                dumped,
+            } => {
                 let reached = run_known(
                     insts,
                     keys,
@@ -137,8 +141,8 @@ pub fn steps(
                     memory,
                     left - 1,
                 );
-                let last = reached.core;
-                core = last;
+                let last = reached.registers;
+                registers = last;
                 flags = reached.flags;
                 left = reached.left;
                 n = dumped;
@@ -149,7 +153,7 @@ pub fn steps(
             }
         }
     }
-    ends(core, flags, 0, n, LIMIT, 0)
+    Progress::ends(registers, flags, 0, n, LIMIT, 0)
 }
 
 pub fn ending(kind: u8, number: u8) -> Ending
@@ -171,17 +175,17 @@ pub fn pack(
     limit: u64,
 ) -> Ran
     requires { ⌜ progress .left ≤ limit ⌝ }
-    ensures { λ r. ⌜ r ≡ record { machine = whole (progress .core) (progress .flags) stack calls memory (eqb (progress .ending) 0); ending = endingOf (progress .ending) (progress .number); steps = limit - progress .left; dumped = progress .dumped } ⌝ }
+    ensures { λ r. ⌜ r ≡ record { machine = ofParts (progress .registers) (progress .flags) stack calls memory (eqb (progress .ending) 0); ending = endingOf (progress .ending) (progress .number); steps = limit - progress .left; dumped = progress .dumped } ⌝ }
 {
-    let core = progress.core;
+    let registers = progress.registers;
     let machine = Machine {
         stack: stack,
-        height: core.height,
+        height: registers.height,
         calls: calls,
-        call_height: core.call_height,
+        call_height: registers.call_height,
         memory: memory,
         flags: progress.flags,
-        ip: core.ip,
+        ip: registers.ip,
         halted: progress.ending == HALTED,
     };
     let last = ending(progress.ending, progress.number);
@@ -201,7 +205,7 @@ pub fn execute_parts(
     insts: &[u8],
     labels: &[u8],
     count: usize,
-    core: Core,
+    registers: Registers,
     flags: u8,
     halted: bool,
     limit: u64,
@@ -210,11 +214,11 @@ pub fn execute_parts(
     memory: &mut [u8; MEMORY_SIZE],
     dumps: &mut [u8],
 ) -> Progress
-    ensures { λ r. ⌜ ExecuteParts (now (image .entry)) (now (insts .entry)) (now (labels .entry)) count (whole core flags (now (stack .entry)) (now (calls .entry)) (now (memory .entry)) halted) limit (now (dumps .entry)) r (now (stack .exit)) (now (calls .exit)) (now (memory .exit)) (now (dumps .exit)) ⌝ }
+    ensures { λ r. ⌜ ExecuteParts (now (image .entry)) (now (insts .entry)) (now (labels .entry)) count (ofParts registers flags (now (stack .entry)) (now (calls .entry)) (now (memory .entry)) halted) limit (now (dumps .entry)) r (now (stack .exit)) (now (calls .exit)) (now (memory .exit)) (now (dumps .exit)) ⌝ }
 {
     let mut keys = [UNKNOWN; KNOWN_LIMIT];
     let mut targets = [0u16; KNOWN_LIMIT];
-    let mut progress = begin(insts, count, core, flags, halted, limit);
+    let mut progress = begin(insts, count, registers, flags, halted, limit);
     while progress.on {
         let found = lookup(image, labels, count, progress.start, progress.len);
         progress = steps(
@@ -246,7 +250,7 @@ pub fn execute_program(
 ) -> Ran
     ensures { λ r. ⌜ ExecuteProgram (now (image .entry)) (now (insts .entry)) (now (labels .entry)) count m limit (now (dumps .entry)) r (now (dumps .exit)) ⌝ }
 {
-    let core = Core {
+    let registers = Registers {
         ip: m.ip,
         height: m.height,
         call_height: m.call_height,
@@ -259,7 +263,7 @@ pub fn execute_program(
         insts,
         labels,
         count,
-        core,
+        registers,
         m.flags,
         m.halted,
         limit,

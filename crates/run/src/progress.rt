@@ -1,13 +1,13 @@
 // How far a run has come.
 ghost use mathlib.Core.Path.{_≡_};
 ghost use Rattle.run.specs.Turns as turns;
-use step_core::Core;
+use step_core::Registers;
 
 // What changes beside the arrays: the machine's numbers, the steps that are left and the cells dumped so far. The run
 // goes on, and asks for the lookup of the name at `start`; or it is over. The ending is in numbers, so that a Progress is
 // numbers alone.
 pub struct Progress {
-    pub core: Core,
+    pub registers: Registers,
     pub flags: u8,
     pub left: u64,
     pub dumped: usize,
@@ -25,34 +25,55 @@ pub const LIMIT: u8 = 1;
 
 pub const NUMBER: u8 = 2;
 
-pub fn asks(core: Core, flags: u8, left: u64, dumped: usize, start: u64, len: u64) -> Progress
-    ensures { λ r. ⌜ r ≡ turns.asking core flags left dumped start len ⌝ }
-{
-    Progress {
-        core: core,
-        flags: flags,
-        left: left,
-        dumped: dumped,
-        on: true,
-        start: start,
-        len: len,
-        ending: 0,
-        number: 0,
-    }
-}
+// The numbers that count no step: a dump that would succeed with the buffer full, and what document 01 lists under 34.
+pub const BUFFER_FULL: u8 = 33;
 
-pub fn ends(core: Core, flags: u8, left: u64, dumped: usize, ending: u8, number: u8) -> Progress
-    ensures { λ r. ⌜ r ≡ turns.ending core flags left dumped ending number ⌝ }
-{
-    Progress {
-        core: core,
-        flags: flags,
-        left: left,
-        dumped: dumped,
-        on: false,
-        start: 0,
-        len: 0,
-        ending: ending,
-        number: number,
+pub const ILL_STATE: u8 = 34;
+
+impl Progress {
+    pub fn asks(
+        registers: Registers,
+        flags: u8,
+        left: u64,
+        dumped: usize,
+        start: u64,
+        len: u64,
+    ) -> Self
+        ensures { λ r. ⌜ r ≡ turns.asking registers flags left dumped start len ⌝ }
+    {
+        Progress {
+            registers: registers,
+            flags: flags,
+            left: left,
+            dumped: dumped,
+            on: true,
+            start: start,
+            len: len,
+            ending: 0,
+            number: 0,
+        }
+    }
+
+    pub fn ends(
+        registers: Registers,
+        flags: u8,
+        left: u64,
+        dumped: usize,
+        ending: u8,
+        number: u8,
+    ) -> Self
+        ensures { λ r. ⌜ r ≡ turns.ending registers flags left dumped ending number ⌝ }
+    {
+        Progress {
+            registers: registers,
+            flags: flags,
+            left: left,
+            dumped: dumped,
+            on: false,
+            start: 0,
+            len: 0,
+            ending: ending,
+            number: number,
+        }
     }
 }

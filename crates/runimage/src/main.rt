@@ -41,7 +41,7 @@ fn main() {
         io::write_all(STDERR_FILENO, b"runimage: standard input can't be read\n");
         return;
     };
-    let mut text = session::blank_text();
-    let size = session::run_image(&image[..n], &mut text);
+    let mut text = transcript::blank_text();
+    let size = transcript::run_image(&image[..n], &mut text);
     io::write_all(STDOUT_FILENO, &text[..size]);
 }

@@ -14,15 +14,15 @@ use Rattle.machine.specs.declared.Label.{Label}
 use Rattle.machine.specs.declared.Machine.{Machine}
 use Rattle.machine.specs.Lookup.{Program, Found, leadsTo, lookup}
 use Rattle.machine.specs.Step.{Stepped, ill, exec, opOf, step, wellState}
-use Rattle.tables.specs.Tables.{numberAt, instsOf}
-use Rattle.step_core.specs.declared.Core.{Core}
+use Rattle.tables.specs.Tables.{numberAt, instsOf, instOf}
+use Rattle.step_core.specs.declared.Registers.{Registers}
 use Rattle.step_core.specs.declared.Executed.{Executed}
 use Rattle.step_core.specs.declared.Executed.the-variants.{Next, Compared, Dump, Halt, Trap, Ill}
 use Rattle.step_core.specs.declared.LookedUp.{LookedUp}
 use Rattle.step_core.specs.declared.LookedUp.the-variants.{NotAsked, NoLabel, IllChain, Target}
-use Rattle.step_core.specs.Parts.{foundOf, whole, Inside, Acts}
-use Rattle.lookup.specs.Walks.{lent}
-use Rattle.known.specs.Known.{looksUp, instOf, KnownAt, Over}
+use Rattle.step_core.specs.Parts.{foundOf, ofParts, Inside, Acts}
+use Rattle.lookup.specs.Walks.{lentProgram}
+use Rattle.known.specs.Known.{looksUp, KnownAt, Over}
 use Rattle.known.proofs.Keeping.{IfTarget}
 use Rattle.known.proofs.Records.{inst-is, within}
 use Rattle.step.specs.Steps.{Made}
@@ -64,8 +64,8 @@ name-lies image xs ip w l =
     and-right (eqb (numberAt xs (ip * 4 + 1)) 0) _ (rw (is-named op (eqb op 28) (leb 12 op) (leb op 20) refl refl refl l) at w)
 
 -- an instruction's answer, with these flags
-pub acted : {i : Machine → Stepped} {c : Core} {s ca me s' ca' me' : List ℕ} (f : ℕ) (r : Executed) → Acts i c s ca me r s' ca' me' →
-    Made (i (whole c f s ca me false)) f s ca me r s' ca' me'
+pub acted : {i : Machine → Stepped} {c : Registers} {s ca me s' ca' me' : List ℕ} (f : ℕ) (r : Executed) → Acts i c s ca me r s' ca' me' →
+    Made (i (ofParts c f s ca me false)) f s ca me r s' ca' me'
 acted f (Next n) a = record { does = a .does f; small = a .small; kept = tt }
 acted f (Compared n g) a = record { does = a .does f; small = a .small; kept = tt }
 acted f (Dump n x) a = record { does = a .does f; small = a .small; kept = a .kept }
@@ -79,7 +79,7 @@ as-is a q = rw (← q) a
 
 module _ (image xs : List ℕ) (labels : List Label) (count : ℕ) (inside : count * 32 ≤ length xs) where
   abbrev p : Program
-  p = lent image (instsOf xs) labels count
+  p = lentProgram image (instsOf xs) labels count
 
   over : Over p xs
   over = record { table = refl; inside = inside }
@@ -88,31 +88,31 @@ module _ (image xs : List ℕ) (labels : List Label) (count : ℕ) (inside : cou
       KnownAt p xs (numberAt xs (ip * 4)) t ip
   known-at ip below formed t finds = record { below = below; formed = formed; typ-is = refl; target-is = finds }
 
-  module _ (c : Core) (f : ℕ) (s ca me : List ℕ) (small : Inside c) where
-    pub step-past : count ≤ c .ip → ill ≡ step p (whole c f s ca me false)
+  module _ (c : Registers) (f : ℕ) (s ca me : List ℕ) (small : Inside c) where
+    pub step-past : count ≤ c .ip → ill ≡ step p (ofParts c f s ca me false)
     unfolding step wellState
     step-past h = rw (le-leb _ _ (small .0), le-leb _ _ (small .1), le-ltb _ _ h) refl
 
     module _ (below : c .ip < count) where
-      pub step-unformed : wellFormed image (instOf xs (c .ip)) ≡ false → ill ≡ step p (whole c f s ca me false)
+      pub step-unformed : wellFormed image (instOf xs (c .ip)) ≡ false → ill ≡ step p (ofParts c f s ca me false)
       unfolding step wellState
       step-unformed w =
-          rw (le-leb _ _ (small .0), le-leb _ _ (small .1), lt-ltb _ _ below, le-leb _ _ (within p xs over (whole c f s ca me false)), inst-is p xs over (whole c f s ca me false) below, w) refl
+          rw (le-leb _ _ (small .0), le-leb _ _ (small .1), lt-ltb _ _ below, le-leb _ _ (within p xs over (ofParts c f s ca me false)), inst-is p xs over (ofParts c f s ca me false) below, w) refl
 
       module _ (formed : wellFormed image (instOf xs (c .ip)) ≡ true) where
-        step-is : step p (whole c f s ca me false) ≡ exec (lookup p (instOf xs (c .ip))) (instOf xs (c .ip)) (whole c f s ca me false) (opOf (numberAt xs (c .ip * 4)))
+        step-is : step p (ofParts c f s ca me false) ≡ exec (lookup p (instOf xs (c .ip))) (instOf xs (c .ip)) (ofParts c f s ca me false) (opOf (numberAt xs (c .ip * 4)))
         unfolding step wellState
         step-is =
-            rw (le-leb _ _ (small .0), le-leb _ _ (small .1), lt-ltb _ _ below, le-leb _ _ (within p xs over (whole c f s ca me false)), inst-is p xs over (whole c f s ca me false) below, formed) refl
+            rw (le-leb _ _ (small .0), le-leb _ _ (small .1), lt-ltb _ _ below, le-leb _ _ (within p xs over (ofParts c f s ca me false)), inst-is p xs over (ofParts c f s ca me false) below, formed) refl
 
         module _ (r : Executed) (s' ca' me' : List ℕ) where
           -- a jump or CALL, of which `found` was found
           pub made-found : (found : Found) → found ≡ lookup p (instOf xs (c .ip)) →
-              Made (exec found (instOf xs (c .ip)) (whole c f s ca me false) (opOf (numberAt xs (c .ip * 4)))) f s ca me r s' ca' me' →
-              Made (step p (whole c f s ca me false)) f s ca me r s' ca' me'
-          made-found found e a = as-is a (ap (λ (g : Found). exec g (instOf xs (c .ip)) (whole c f s ca me false) (opOf (numberAt xs (c .ip * 4)))) e ∙ sym step-is)
+              Made (exec found (instOf xs (c .ip)) (ofParts c f s ca me false) (opOf (numberAt xs (c .ip * 4)))) f s ca me r s' ca' me' →
+              Made (step p (ofParts c f s ca me false)) f s ca me r s' ca' me'
+          made-found found e a = as-is a (ap (λ (g : Found). exec g (instOf xs (c .ip)) (ofParts c f s ca me false) (opOf (numberAt xs (c .ip * 4)))) e ∙ sym step-is)
 
           -- any other instruction
           pub made-acts : Acts (λ (m : Machine). exec (lookup p (instOf xs (c .ip))) (instOf xs (c .ip)) m (opOf (numberAt xs (c .ip * 4)))) c s ca me r s' ca' me' →
-              Made (step p (whole c f s ca me false)) f s ca me r s' ca' me'
+              Made (step p (ofParts c f s ca me false)) f s ca me r s' ca' me'
           made-acts a = as-is (acted f r a) (sym step-is)

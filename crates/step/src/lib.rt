@@ -8,8 +8,9 @@ ghost use lib.ListN.{length};
 ghost use Rattle.inst.specs.Forms.{formTable};
 ghost use Rattle.step_core.specs.Parts.{Inside, Tested, foundOf};
 ghost use Rattle.known.specs.Known.{looksUp, Sized, Listed};
-ghost use Rattle.step.specs.Steps.{Jumps, Executes, Tries};
+ghost use Rattle.step.specs.Steps.{arrays, Jumps, Executes, Tries};
 use inst::TABLE_SIZE;
+use inst::ops;
 use known::KNOWN_LIMIT;
 use known::is_well_formed_at;
 use known::keep_jump;
@@ -19,9 +20,9 @@ use machine::CALL_LIMIT;
 use machine::MEMORY_SIZE;
 use machine::STACK_LIMIT;
 use step_convert::convert;
-use step_core::Core;
 use step_core::Executed;
 use step_core::LookedUp;
+use step_core::Registers;
 use step_core::is_asked;
 use step_core::onward;
 use step_float::float_step;
@@ -38,7 +39,7 @@ use tables::number_at;
 // A step's answer; or the start and length of the name whose lookup it needs.
 pub enum Tried {
     Done(Executed),
-    Asks(u64, u64),
+    Asks { start: u64, len: u64 },
 }
 
 // A jump or CALL, by what its lookup found. Tests and not arms: the compiler copies arms into the run's loop, with a jump through a
@@ -47,19 +48,19 @@ fn execute_jump(
     op: u64,
     found: LookedUp,
     flags: u8,
-    core: Core,
+    registers: Registers,
     calls: &mut [u64; CALL_LIMIT],
 ) -> Executed
-    requires { ⌜ Tested core × (looksUp op ≡ true) ⌝ }
-    ensures { λ r. ⌜ Jumps op (foundOf found) core flags (now (calls .entry)) r (now (calls .exit)) ⌝ }
+    requires { ⌜ Tested registers × (looksUp op ≡ true) ⌝ }
+    ensures { λ r. ⌜ Jumps op (foundOf found) registers flags (now (calls .entry)) r (now (calls .exit)) ⌝ }
 {
-    if op == 28 {
-        return call(core, calls, found);
+    if op == ops::CALL {
+        return call(registers, calls, found);
     }
-    if op == 20 {
-        return jump(core, found);
+    if op == ops::JMP {
+        return jump(registers, found);
     }
-    jump_if(core, flags, op as u8, found)
+    jump_if(registers, flags, op, found)
 }
 
 // Any other instruction. The ranges stay: with an arm for each first byte here the quick loop's code moves, and takes 1.9
@@ -67,32 +68,40 @@ fn execute_jump(
 fn execute_instruction(
     op: u64,
     v: u64,
-    core: Core,
+    registers: Registers,
     stack: &mut [u64; STACK_LIMIT],
     calls: &[u64; CALL_LIMIT],
     memory: &mut [u8; MEMORY_SIZE],
 ) -> Executed
-    requires { ⌜ Tested core × (looksUp op ≡ false) ⌝ }
-    ensures { λ r. ⌜ Executes op v core (now (stack .entry)) (now (calls .entry)) (now (memory .entry)) r (now (stack .exit)) (now (calls .entry)) (now (memory .exit)) ⌝ }
+    requires { ⌜ Tested registers × (looksUp op ≡ false) ⌝ }
+    ensures { λ r. ⌜ Executes op v registers (now (stack .entry)) (now (calls .entry)) (now (memory .entry)) r (now (stack .exit)) (now (calls .entry)) (now (memory .exit)) ⌝ }
 {
     match op {
-        1 => cells::push(core, stack, v),
-        2 => cells::pop(core),
-        3 => cells::inc(core, stack),
-        4 => cells::dec(core, stack),
-        5..=8 => integer_step(core, stack, op),
-        9 => compare(core, stack),
-        10 => cells::swap(core, stack, v),
-        11 => cells::dup(core, stack, v),
-        22 => cells::bot(core, stack),
-        23..=26 => float_step(core, stack, op),
-        27 | 46 => dump(core, stack, v),
-        29 => ret(core, calls),
-        31..=36 => convert(core, stack, op),
-        38 | 40 | 42 | 44 => step_memory::read(core, stack, memory),
-        39 | 41 | 43 | 45 => step_memory::write(core, stack, memory),
-        69 => Executed::Halt(core),
-        _ => onward(core, core.height),
+        ops::PUSH => cells::push(registers, stack, v),
+        ops::POP => cells::pop(registers),
+        ops::INC => cells::inc(registers, stack),
+        ops::DEC => cells::dec(registers, stack),
+        ops::IADD..=ops::IDIV => integer_step(registers, stack, op),
+        ops::CMP => compare(registers, stack),
+        ops::SWAP => cells::swap(registers, stack, v),
+        ops::DUP => cells::dup(registers, stack, v),
+        ops::BOT => cells::bot(registers, stack),
+        ops::FADD..=ops::FDIV => float_step(registers, stack, op),
+        ops::IDMP | ops::FDMP => dump(registers, stack, v),
+        ops::RET => ret(registers, calls),
+        ops::F2I..=ops::U2F => convert(registers, stack, op),
+        ops::READ8 | ops::READ16 | ops::READ32 | ops::READ64 => step_memory::read(
+            registers,
+            stack,
+            memory,
+        ),
+        ops::WRITE8 | ops::WRITE16 | ops::WRITE32 | ops::WRITE64 => step_memory::write(
+            registers,
+            stack,
+            memory,
+        ),
+        ops::HALT => Executed::Halt(registers),
+        _ => onward(registers, registers.height),
     }
 }
 
@@ -106,17 +115,17 @@ pub fn step(
     keys: &mut [u8; KNOWN_LIMIT],
     targets: &mut [u16; KNOWN_LIMIT],
     flags: u8,
-    core: Core,
+    registers: Registers,
     found: LookedUp,
     stack: &mut [u64; STACK_LIMIT],
     calls: &mut [u64; CALL_LIMIT],
     memory: &mut [u8; MEMORY_SIZE],
 ) -> Tried
     requires { ⌜ now forms ≡ formTable ⌝ }
-    requires { ⌜ Inside core × (count * 32 ≤ length (now insts)) × Sized (now keys) (now targets) × Listed (now insts) (now keys) (now targets) ⌝ }
-    ensures { λ r. ⌜ Tries (now (image .entry)) (now (insts .entry)) count core flags found (now (keys .entry)) (now (targets .entry)) (now (stack .entry)) (now (calls .entry)) (now (memory .entry)) r (now (keys .exit)) (now (targets .exit)) (now (stack .exit)) (now (calls .exit)) (now (memory .exit)) ⌝ }
+    requires { ⌜ Inside registers × (count * 32 ≤ length (now insts)) × Sized (now keys) (now targets) × Listed (now insts) (now keys) (now targets) ⌝ }
+    ensures { λ r. ⌜ Tries (now (image .entry)) (now (insts .entry)) count registers flags found (arrays (now (keys .entry)) (now (targets .entry)) (now (stack .entry)) (now (calls .entry)) (now (memory .entry))) r (arrays (now (keys .exit)) (now (targets .exit)) (now (stack .exit)) (now (calls .exit)) (now (memory .exit))) ⌝ }
 {
-    let ip = core.ip;
+    let ip = registers.ip;
     if count <= ip {
         return Tried::Done(Executed::Ill);
     }
@@ -126,9 +135,12 @@ pub fn step(
     let op = number_at(insts, ip * 4);
     if looks_up(op) {
         if !is_asked(found) {
-            return Tried::Asks(number_at(insts, ip * 4 + 2), number_at(insts, ip * 4 + 3));
+            return Tried::Asks {
+                start: number_at(insts, ip * 4 + 2),
+                len: number_at(insts, ip * 4 + 3),
+            };
         }
-        let answer = execute_jump(op, found, flags, core, calls);
+        let answer = execute_jump(op, found, flags, registers, calls);
         keep_jump(keys, targets, ip, op, found);
         Tried::Done(answer)
     } else {
@@ -136,7 +148,7 @@ pub fn step(
         Tried::Done(execute_instruction(
             op,
             number_at(insts, ip * 4 + 1),
-            core,
+            registers,
             stack,
             calls,
             memory,

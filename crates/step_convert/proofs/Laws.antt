@@ -12,7 +12,7 @@ use Rattle.nan.specs.declared.CellType.the-variants.{F64, I64, U64, Ptr, Unknow
 use Rattle.nan.specs.Cells as cells
 use Rattle.nan.proofs.Laws.{kept, abs-value, mag-abs, below, above}
 use Rattle.machine.specs.declared.Machine.{Machine}
-use Rattle.machine.specs.Step.{Stepped, succeeds, trap, _must_else_then_, known, whole, numberOf, minus, convert, Conversion, F2I, F2U, I2F, I2U, U2I, U2F, ruleOf}
+use Rattle.machine.specs.Step.{Stepped, succeeds, trap, _must_else_then_, typeKnown, whole, numberOf, minus, convert, Conversion, F2I, F2U, I2F, I2U, U2I, U2F, ruleOf}
 use Rattle.machine.specs.Change.{onward, top, popped, replaced}
 use Rattle.step_convert.specs.FirstBytes.{conversionTrap}
 use Rattle.step_core.proofs.Tests.{passes, fails}
@@ -105,8 +105,8 @@ module _ (k : Conversion) (m : Machine) where
   module _ (h : ltb 0 (m .height) ≡ true) (t : ℕ) (e : t ≡ conversionTrap k (top m)) where
     pub convert-traps : (t ≡ 0 → ⊥) → convert k m ≡ trap t (popped m)
     unfolding convert conversionTrap
-    convert-traps z = passes _ _ _ _ h ∙ stops _ _ (known (top m)) (ruleOf k (top m) .takes) (ruleOf k (top m) .below) t e z
+    convert-traps z = passes _ _ _ _ h ∙ stops _ _ (typeKnown (top m)) (ruleOf k (top m) .takes) (ruleOf k (top m) .below) t e z
 
     pub convert-does : t ≡ 0 → convert k m ≡ succeeds (onward (replaced (ruleOf k (top m) .gives) m))
     unfolding convert conversionTrap
-    convert-does z = passes _ _ _ _ h ∙ goes _ _ (known (top m)) (ruleOf k (top m) .takes) (ruleOf k (top m) .below) t e z
+    convert-does z = passes _ _ _ _ h ∙ goes _ _ (typeKnown (top m)) (ruleOf k (top m) .takes) (ruleOf k (top m) .below) t e z

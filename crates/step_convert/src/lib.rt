@@ -10,21 +10,31 @@ ghost use Rattle.nan.specs.declared.CellType.the-variants.{F64};
 ghost use Rattle.machine.specs.Step as definition;
 ghost use Rattle.step_core.specs.Parts.{Tested, OnStack};
 ghost use Rattle.step_convert.specs.FirstBytes.{conversionOf, conversionTrap};
+use inst::ops;
 use machine::STACK_LIMIT;
+use machine::traps;
 use nan::CellType;
-use step_core::Core;
 use step_core::Executed;
+use step_core::Registers;
 use step_core::onward;
 use step_core::trap;
+
+const NO_TRAP: u8 = 0;
 
 // The trap of a conversion on an F64: 29 of F2U, 28 of those that take whole numbers, or 0.
 fn float_trap(op: u64, cell: u64) -> u8
     ensures { λ r. ⌜ (cells.typeOf cell ≡ F64 → r ≡ conversionTrap (conversionOf op) cell) ⌝ }
 {
     match op {
-        31 => 0,
-        32 => { if float64::is_below_zero(cell) { 29 } else { 0 } }
-        _ => 28,
+        ops::F2I => NO_TRAP,
+        ops::F2U => {
+            if float64::is_below_zero(cell) {
+                traps::FAILED_CONVERSION
+            } else {
+                NO_TRAP
+            }
+        }
+        _ => traps::INVALID_TYPE,
     }
 }
 
@@ -33,11 +43,23 @@ fn whole_trap(op: u64, cell: u64) -> u8
     ensures { λ r. ⌜ (definition.whole cell ≡ true → r ≡ conversionTrap (conversionOf op) cell) ⌝ }
 {
     match op {
-        31 => 28,
-        32 => 28,
-        33 => { if nan::get_value(cell) < 0 { 29 } else { 0 } }
-        34 => { if nan::get_value(cell) < 0 { 29 } else { 0 } }
-        _ => 0,
+        ops::F2I => traps::INVALID_TYPE,
+        ops::F2U => traps::INVALID_TYPE,
+        ops::I2F => {
+            if nan::get_value(cell) < 0 {
+                traps::FAILED_CONVERSION
+            } else {
+                NO_TRAP
+            }
+        }
+        ops::I2U => {
+            if nan::get_value(cell) < 0 {
+                traps::FAILED_CONVERSION
+            } else {
+                NO_TRAP
+            }
+        }
+        _ => NO_TRAP,
     }
 }
 
@@ -50,8 +72,8 @@ fn conversion_trap(op: u64, cell: u64) -> u8
         CellType::F64 => float_trap(op, cell),
         CellType::I64 => whole_trap(op, cell),
         CellType::U64 => whole_trap(op, cell),
-        CellType::Ptr => 28,
-        CellType::Unknown => 31,
+        CellType::Ptr => traps::INVALID_TYPE,
+        CellType::Unknown => traps::UNKNOWN_TYPE,
     }
 }
 
@@ -67,31 +89,31 @@ fn converted(op: u64, cell: u64) -> u64
     ensures { λ r. ⌜ r ≡ (definition.ruleOf (conversionOf op) cell) .gives ⌝ }
 {
     match op {
-        31 => nan::from_i64(float64::to_i64(cell)),
-        32 => nan::from_u64(float64::to_u64(cell)),
-        33 => i2f(cell),
-        34 => nan::from_u64(nan::as_u64(cell)),
-        35 => nan::from_i64(nan::get_value(cell)),
+        ops::F2I => nan::from_i64(float64::to_i64(cell)),
+        ops::F2U => nan::from_u64(float64::to_u64(cell)),
+        ops::I2F => i2f(cell),
+        ops::I2U => nan::from_u64(nan::as_u64(cell)),
+        ops::U2I => nan::from_i64(nan::get_value(cell)),
         _ => float64::from_u64(nan::as_u64(cell)),
     }
 }
 
-pub fn convert(core: Core, stack: &mut [u64; STACK_LIMIT], op: u64) -> Executed
-    requires { ⌜ Tested core ⌝ }
-    ensures { λ r. ⌜ OnStack (definition.convert (conversionOf op)) core (now (stack .entry)) r (now (stack .exit)) ⌝ }
+pub fn convert(registers: Registers, stack: &mut [u64; STACK_LIMIT], op: u64) -> Executed
+    requires { ⌜ Tested registers ⌝ }
+    ensures { λ r. ⌜ OnStack (definition.convert (conversionOf op)) registers (now (stack .entry)) r (now (stack .exit)) ⌝ }
 {
-    let height = core.height;
+    let height = registers.height;
     if 0 < height {
         let last = height - 1;
         let cell = stack[last];
         let t = conversion_trap(op, cell);
-        if t == 0 {
+        if t == NO_TRAP {
             stack[last] = converted(op, cell);
-            onward(core, height)
+            onward(registers, height)
         } else {
-            trap(core, last, t)
+            trap(registers, last, t)
         }
     } else {
-        trap(core, height, 20)
+        trap(registers, height, traps::STACK_UNDERFLOW)
     }
 }

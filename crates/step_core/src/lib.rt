@@ -7,8 +7,8 @@ ghost use Rattle.step_core.specs.Parts.{isAsked};
 
 // The numbers that nearly every step changes. All fields have eight bytes: a u8 among them would leave seven bytes of
 // padding, which the compiler then copies through memory at each step (2.2 instead of 1.6 ns a step). So the flags
-// are a number beside the core.
-pub struct Core {
+// are a number beside the registers.
+pub struct Registers {
     pub ip: usize,
     pub height: usize,
     pub call_height: usize,
@@ -17,11 +17,11 @@ pub struct Core {
 // Success, for CMP with its new flags; a cell to dump, and the machine after it; HALT; a trap with the machine that it
 // leaves; 34, nothing changed.
 pub enum Executed {
-    Next(Core),
-    Compared(Core, u8),
-    Dump(Core, u64),
-    Halt(Core),
-    Trap(Core, u8),
+    Next(Registers),
+    Compared { registers: Registers, flags: u8 },
+    Dump { registers: Registers, cell: u64 },
+    Halt(Registers),
+    Trap { registers: Registers, number: u8 },
     Ill,
 }
 
@@ -47,38 +47,38 @@ pub fn is_asked(found: LookedUp) -> bool
 
 // Success with the height given: the pointer goes to the next instruction. Called only by our own steps, which know
 // that the pointer is below a table's length.
-pub fn onward(core: Core, height: usize) -> Executed
-    requires { ⌜ core .ip + 1 < 2 ^ 64 ⌝ }
-    ensures { λ r. ⌜ r ≡ Next (record { ip = core .ip + 1; height = height; «call_height» = core .«call_height» }) ⌝ }
+pub fn onward(registers: Registers, height: usize) -> Executed
+    requires { ⌜ registers .ip + 1 < 2 ^ 64 ⌝ }
+    ensures { λ r. ⌜ r ≡ Next (record { ip = registers .ip + 1; height = height; «call_height» = registers .«call_height» }) ⌝ }
 {
-    Executed::Next(Core {
-        ip: core.ip + 1,
+    Executed::Next(Registers {
+        ip: registers.ip + 1,
         height: height,
-        call_height: core.call_height,
+        call_height: registers.call_height,
     })
 }
 
 // Success with the pointer at `to`.
-pub fn moved(core: Core, to: usize) -> Executed
-    ensures { λ r. ⌜ r ≡ Next (record { ip = to; height = core .height; «call_height» = core .«call_height» }) ⌝ }
+pub fn moved(registers: Registers, to: usize) -> Executed
+    ensures { λ r. ⌜ r ≡ Next (record { ip = to; height = registers .height; «call_height» = registers .«call_height» }) ⌝ }
 {
-    Executed::Next(Core {
+    Executed::Next(Registers {
         ip: to,
-        height: core.height,
-        call_height: core.call_height,
+        height: registers.height,
+        call_height: registers.call_height,
     })
 }
 
 // The trap t, which leaves the height given.
-pub fn trap(core: Core, height: usize, t: u8) -> Executed
-    ensures { λ r. ⌜ r ≡ Trap (record { ip = core .ip; height = height; «call_height» = core .«call_height» }) t ⌝ }
+pub fn trap(registers: Registers, height: usize, t: u8) -> Executed
+    ensures { λ r. ⌜ r ≡ Trap (record { ip = registers .ip; height = height; «call_height» = registers .«call_height» }) t ⌝ }
 {
-    Executed::Trap(
-        Core {
-            ip: core.ip,
+    Executed::Trap {
+        registers: Registers {
+            ip: registers.ip,
             height: height,
-            call_height: core.call_height,
+            call_height: registers.call_height,
         },
-        t,
-    )
+        number: t,
+    }
 }

@@ -6,9 +6,11 @@ ghost use Rattle.binary64.specs.Binary64.{isNaN};
 ghost use Rattle.machine.specs.Step as definition;
 ghost use Rattle.step_core.specs.Parts.{Tested, OnStack};
 ghost use Rattle.step_float.specs.FirstBytes.{floatOf};
+use inst::ops;
 use machine::STACK_LIMIT;
-use step_core::Core;
+use machine::traps;
 use step_core::Executed;
+use step_core::Registers;
 use step_core::onward;
 use step_core::trap;
 
@@ -31,26 +33,26 @@ fn of_floats(op: u64, a: u64, b: u64) -> u64
         0x7FF8000000000000
     } else {
         match op {
-            23 => float64::add(a, b),
-            24 => float64::sub(a, b),
-            25 => float64::mul(a, b),
+            ops::FADD => float64::add(a, b),
+            ops::FSUB => float64::sub(a, b),
+            ops::FMUL => float64::mul(a, b),
             _ => float64::div(a, b),
         }
     }
 }
 
-pub fn float_step(core: Core, stack: &mut [u64; STACK_LIMIT], op: u64) -> Executed
-    requires { ⌜ Tested core ⌝ }
-    ensures { λ r. ⌜ OnStack (definition.floatStep (floatOf op)) core (now (stack .entry)) r (now (stack .exit)) ⌝ }
+pub fn float_step(registers: Registers, stack: &mut [u64; STACK_LIMIT], op: u64) -> Executed
+    requires { ⌜ Tested registers ⌝ }
+    ensures { λ r. ⌜ OnStack (definition.floatStep (floatOf op)) registers (now (stack .entry)) r (now (stack .exit)) ⌝ }
 {
-    let height = core.height;
+    let height = registers.height;
     if 2 <= height {
         let last = height - 1;
         let b = stack[last];
         let a = stack[last - 1];
         stack[last - 1] = of_floats(op, a, b);
-        onward(core, last)
+        onward(registers, last)
     } else {
-        trap(core, height, 20)
+        trap(registers, height, traps::STACK_UNDERFLOW)
     }
 }

@@ -5,8 +5,9 @@ ghost use lib.Dec.{eqb};
 ghost use Rattle.machine.specs.Step as definition;
 ghost use Rattle.step_core.specs.Parts.{Tested, OnStack};
 use machine::STACK_LIMIT;
-use step_core::Core;
+use machine::traps;
 use step_core::Executed;
+use step_core::Registers;
 use step_core::trap;
 
 fn is_stream(stream: u64) -> bool
@@ -15,25 +16,25 @@ fn is_stream(stream: u64) -> bool
     if stream == 1 { true } else { stream == 2 }
 }
 
-pub fn dump(core: Core, stack: &[u64; STACK_LIMIT], stream: u64) -> Executed
-    requires { ⌜ Tested core ⌝ }
-    ensures { λ r. ⌜ OnStack (definition.dump stream) core (now (stack .entry)) r (now (stack .entry)) ⌝ }
+pub fn dump(registers: Registers, stack: &[u64; STACK_LIMIT], stream: u64) -> Executed
+    requires { ⌜ Tested registers ⌝ }
+    ensures { λ r. ⌜ OnStack (definition.dump stream) registers (now (stack .entry)) r (now (stack .entry)) ⌝ }
 {
-    let height = core.height;
+    let height = registers.height;
     if 0 < height {
         if is_stream(stream) {
-            Executed::Dump(
-                Core {
-                    ip: core.ip + 1,
+            Executed::Dump {
+                registers: Registers {
+                    ip: registers.ip + 1,
                     height: height,
-                    call_height: core.call_height,
+                    call_height: registers.call_height,
                 },
-                stack[height - 1],
-            )
+                cell: stack[height - 1],
+            }
         } else {
-            trap(core, height, 32)
+            trap(registers, height, traps::UNKNOWN_STREAM)
         }
     } else {
-        trap(core, height, 20)
+        trap(registers, height, traps::STACK_UNDERFLOW)
     }
 }

@@ -2,62 +2,69 @@
 ghost use Prim.Native.Nat.{_≤_};
 ghost use Rattle.machine.specs.Step as definition;
 ghost use Rattle.flag.specs.Flags.{isSet};
-ghost use Rattle.step_core.specs.Parts.{Tested, OnCore, OnStack, foundOf};
+ghost use Rattle.step_core.specs.Parts.{Tested, OnRegisters, OnStack, foundOf};
 use machine::STACK_LIMIT;
-use step_core::Core;
+use machine::traps;
 use step_core::Executed;
 use step_core::LookedUp;
+use step_core::Registers;
 use step_core::moved;
 use step_core::trap;
 
-pub fn compare(core: Core, stack: &[u64; STACK_LIMIT]) -> Executed
-    requires { ⌜ Tested core ⌝ }
-    ensures { λ r. ⌜ OnStack definition.compare core (now (stack .entry)) r (now (stack .entry)) ⌝ }
+pub fn compare(registers: Registers, stack: &[u64; STACK_LIMIT]) -> Executed
+    requires { ⌜ Tested registers ⌝ }
+    ensures { λ r. ⌜ OnStack definition.compare registers (now (stack .entry)) r (now (stack .entry)) ⌝ }
 {
-    let height = core.height;
+    let height = registers.height;
     if 2 <= height {
         let last = height - 1;
         let b = nan::as_u64(stack[last]);
         let a = nan::as_u64(stack[last - 1]);
-        Executed::Compared(
-            Core {
-                ip: core.ip + 1,
+        Executed::Compared {
+            registers: Registers {
+                ip: registers.ip + 1,
                 height: last,
-                call_height: core.call_height,
+                call_height: registers.call_height,
             },
-            flag::cmp(a, b),
-        )
+            flags: flag::cmp(a, b),
+        }
     } else {
-        trap(core, height, 20)
+        trap(registers, height, traps::STACK_UNDERFLOW)
     }
 }
 
-pub fn jump(core: Core, found: LookedUp) -> Executed
-    requires { ⌜ Tested core ⌝ }
-    ensures { λ r. ⌜ OnCore (definition.jump (foundOf found)) core r ⌝ }
+pub fn jump(registers: Registers, found: LookedUp) -> Executed
+    requires { ⌜ Tested registers ⌝ }
+    ensures { λ r. ⌜ OnRegisters (definition.jump (foundOf found)) registers r ⌝ }
 {
     match found {
         LookedUp::NotAsked => Executed::Ill,
-        LookedUp::NoLabel => Executed::Trap(core, 26),
+        LookedUp::NoLabel => Executed::Trap {
+            registers: registers,
+            number: traps::INVALID_LABEL,
+        },
         LookedUp::IllChain => Executed::Ill,
-        LookedUp::Target(t) => moved(core, t),
+        LookedUp::Target(t) => moved(registers, t),
     }
 }
 
 // `op` is the first byte, 12 to 19. The label is looked up before the flag: `found` comes first.
-pub fn jump_if(core: Core, flags: u8, op: u8, found: LookedUp) -> Executed
-    requires { ⌜ Tested core × (12 ≤ op) × (op ≤ 19) ⌝ }
-    ensures { λ r. ⌜ OnCore (definition.jumpIf (isSet flags op) (foundOf found)) core r ⌝ }
+pub fn jump_if(registers: Registers, flags: u8, op: u64, found: LookedUp) -> Executed
+    requires { ⌜ Tested registers × (12 ≤ op) × (op ≤ 19) ⌝ }
+    ensures { λ r. ⌜ OnRegisters (definition.jumpIf (isSet flags op) (foundOf found)) registers r ⌝ }
 {
     match found {
         LookedUp::NotAsked => Executed::Ill,
-        LookedUp::NoLabel => Executed::Trap(core, 26),
+        LookedUp::NoLabel => Executed::Trap {
+            registers: registers,
+            number: traps::INVALID_LABEL,
+        },
         LookedUp::IllChain => Executed::Ill,
         LookedUp::Target(t) => {
             if flag::is_set(flags, op) {
-                moved(core, t)
+                moved(registers, t)
             } else {
-                moved(core, core.ip + 1)
+                moved(registers, registers.ip + 1)
             }
         }
     }

@@ -13,7 +13,7 @@ use Rattle.nan.specs.declared.CellType.the-variants.{F64, I64, U64, Ptr, Unknow
 use Rattle.nan.specs.Cells as cells
 use Rattle.nan.proofs.Laws.{abs-value}
 use Rattle.machine.specs.declared.Machine.{Machine}
-use Rattle.machine.specs.Step.{Stepped, succeeds, trap, _must_else_then_, is, known, numberOf, Integer, IDIV, divides, ofCells, integerStep}
+use Rattle.machine.specs.Step.{Stepped, succeeds, trap, _must_else_then_, is, typeKnown, numberOf, Integer, IDIV, divides, ofCells, integerStep}
 use Rattle.machine.specs.Change.{onward, top, popped, replaced}
 use Rattle.step_integer.specs.FirstBytes.{typeTrap}
 use Rattle.step_core.proofs.Tests.{passes, fails}
@@ -63,7 +63,7 @@ known-of U64 h = refl
 known-of Ptr h = refl
 known-of Unknown h = never h
 
-known-both : (a b : ℕ) → (is I64 a && is I64 b) ≡ true → (known a && known b) ≡ true
+known-both : (a b : ℕ) → (is I64 a && is I64 b) ≡ true → (typeKnown a && typeKnown b) ≡ true
 known-both a b h =
     let ka = known-of (cells.typeOf a) (and-left (is I64 a) (is I64 b) h) in
     let kb = known-of (cells.typeOf b) (and-right (is I64 a) (is I64 b) h) in
@@ -84,7 +84,7 @@ module _ (k : Integer) (m : Machine) where
   module _ (h : leb 2 (m .height) ≡ true) where
     pub integer-types : (is I64 (top (popped m)) && is I64 (top m)) ≡ false → integerStep k m ≡ trap (typeTrap (top (popped m)) (top m)) (popped m)
     unfolding integerStep typeTrap
-    integer-types e = passes _ _ _ _ h ∙ mistyped (known (top (popped m)) && known (top m)) _ _ _ e
+    integer-types e = passes _ _ _ _ h ∙ mistyped (typeKnown (top (popped m)) && typeKnown (top m)) _ _ _ e
 
     module _ (e : (is I64 (top (popped m)) && is I64 (top m)) ≡ true) where
       typed : integerStep k m ≡ (popped m must divides k (top m) else 24 then succeeds (onward (replaced (ofCells k (top (popped m)) (top m)) (popped m))))

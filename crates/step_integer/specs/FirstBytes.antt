@@ -2,7 +2,7 @@
 use Prim.Native.Nat.{ℕ}
 use mathlib.Core.Bool.{cond, _&&_}
 use lib.Dec.{eqb}
-use Rattle.machine.specs.Step.{Integer, IADD, ISUB, IMUL, IDIV, known}
+use Rattle.machine.specs.Step.{Integer, IADD, ISUB, IMUL, IDIV, typeKnown}
 
 -- 5 to 8
 abbrev pub integerOf : ℕ → Integer
@@ -10,4 +10,4 @@ integerOf op = cond (eqb op 5) IADD (cond (eqb op 6) ISUB (cond (eqb op 7) IMUL 
 
 -- the trap after the pops of two operands that aren't both I64
 unfoldable pub typeTrap : ℕ → ℕ → ℕ
-typeTrap a b = cond (known a && known b) 30 31
+typeTrap a b = cond (typeKnown a && typeKnown b) 30 31

@@ -6,10 +6,12 @@ ghost use Rattle.nan.specs.declared.CellType.the-variants.{I64};
 ghost use Rattle.machine.specs.Step as definition;
 ghost use Rattle.step_core.specs.Parts.{Tested, OnStack};
 ghost use Rattle.step_integer.specs.FirstBytes.{integerOf, typeTrap};
+use inst::ops;
 use machine::STACK_LIMIT;
+use machine::traps;
 use nan::CellType;
-use step_core::Core;
 use step_core::Executed;
+use step_core::Registers;
 use step_core::onward;
 use step_core::trap;
 
@@ -27,7 +29,7 @@ fn both_i64(a: u64, b: u64) -> bool
 }
 
 fn is_known(cell: u64) -> bool
-    ensures { λ r. ⌜ r ≡ definition.known cell ⌝ }
+    ensures { λ r. ⌜ r ≡ definition.typeKnown cell ⌝ }
 {
     let t = nan::get_type(cell);
     match t {
@@ -44,9 +46,13 @@ fn type_trap(a: u64, b: u64) -> u8
     ensures { λ r. ⌜ r ≡ typeTrap a b ⌝ }
 {
     if is_known(a) {
-        if is_known(b) { 30 } else { 31 }
+        if is_known(b) {
+            traps::OPERATION_WITH_DIFFERENT_TYPES
+        } else {
+            traps::UNKNOWN_TYPE
+        }
     } else {
-        31
+        traps::UNKNOWN_TYPE
     }
 }
 
@@ -55,9 +61,9 @@ fn is_zero_division(op: u64, b: u64) -> bool
     ensures { λ r. ⌜ r ≡ not (definition.divides (integerOf op) b) ⌝ }
 {
     match op {
-        5 => false,
-        6 => false,
-        7 => false,
+        ops::IADD => false,
+        ops::ISUB => false,
+        ops::IMUL => false,
         _ => b % 0x1000000000000 == 0,
     }
 }
@@ -67,34 +73,34 @@ fn of_cells(op: u64, a: u64, b: u64) -> u64
     ensures { λ r. ⌜ r ≡ definition.ofCells (integerOf op) a b ⌝ }
 {
     match op {
-        5 => integer::iadd(a, b),
-        6 => integer::isub(a, b),
-        7 => integer::imul(a, b),
+        ops::IADD => integer::iadd(a, b),
+        ops::ISUB => integer::isub(a, b),
+        ops::IMUL => integer::imul(a, b),
         _ => integer::idiv(a, b),
     }
 }
 
 // As an I64 cell is known, the test for both comes before 31.
-pub fn integer_step(core: Core, stack: &mut [u64; STACK_LIMIT], op: u64) -> Executed
-    requires { ⌜ Tested core ⌝ }
-    ensures { λ r. ⌜ OnStack (definition.integerStep (integerOf op)) core (now (stack .entry)) r (now (stack .exit)) ⌝ }
+pub fn integer_step(registers: Registers, stack: &mut [u64; STACK_LIMIT], op: u64) -> Executed
+    requires { ⌜ Tested registers ⌝ }
+    ensures { λ r. ⌜ OnStack (definition.integerStep (integerOf op)) registers (now (stack .entry)) r (now (stack .exit)) ⌝ }
 {
-    let height = core.height;
+    let height = registers.height;
     if 2 <= height {
         let last = height - 1;
         let b = stack[last];
         let a = stack[last - 1];
         if both_i64(a, b) {
             if is_zero_division(op, b) {
-                trap(core, last, 24)
+                trap(registers, last, traps::DIVISION_BY_ZERO)
             } else {
                 stack[last - 1] = of_cells(op, a, b);
-                onward(core, last)
+                onward(registers, last)
             }
         } else {
-            trap(core, last, type_trap(a, b))
+            trap(registers, last, type_trap(a, b))
         }
     } else {
-        trap(core, height, 20)
+        trap(registers, height, traps::STACK_UNDERFLOW)
     }
 }

@@ -8,8 +8,9 @@ ghost use Rattle.machine.specs.Step as definition;
 ghost use Rattle.step_core.specs.Parts.{Tested, OnBoth};
 use machine::MEMORY_SIZE;
 use machine::STACK_LIMIT;
-use step_core::Core;
+use machine::traps;
 use step_core::Executed;
+use step_core::Registers;
 use step_core::onward;
 use step_core::trap;
 
@@ -28,40 +29,48 @@ fn byte_at(memory: &[u8; MEMORY_SIZE], at: usize) -> u64
     wide(memory[at])
 }
 
-pub fn read(core: Core, stack: &mut [u64; STACK_LIMIT], memory: &[u8; MEMORY_SIZE]) -> Executed
-    requires { ⌜ Tested core ⌝ }
-    ensures { λ r. ⌜ OnBoth definition.read core (now (stack .entry)) (now (memory .entry)) r (now (stack .exit)) (now (memory .entry)) ⌝ }
+pub fn read(
+    registers: Registers,
+    stack: &mut [u64; STACK_LIMIT],
+    memory: &[u8; MEMORY_SIZE],
+) -> Executed
+    requires { ⌜ Tested registers ⌝ }
+    ensures { λ r. ⌜ OnBoth definition.read registers (now (stack .entry)) (now (memory .entry)) r (now (stack .exit)) (now (memory .entry)) ⌝ }
 {
-    let height = core.height;
+    let height = registers.height;
     if 0 < height {
         let at = nan::as_u64(stack[height - 1]) as usize;
         if at < MEMORY_SIZE {
             stack[height - 1] = nan::from_u64(byte_at(memory, at));
-            onward(core, height)
+            onward(registers, height)
         } else {
-            trap(core, height - 1, 25)
+            trap(registers, height - 1, traps::ILLEGAL_MEMORY_ACCESS)
         }
     } else {
-        trap(core, height, 20)
+        trap(registers, height, traps::STACK_UNDERFLOW)
     }
 }
 
-pub fn write(core: Core, stack: &[u64; STACK_LIMIT], memory: &mut [u8; MEMORY_SIZE]) -> Executed
-    requires { ⌜ Tested core ⌝ }
-    ensures { λ r. ⌜ OnBoth definition.write core (now (stack .entry)) (now (memory .entry)) r (now (stack .entry)) (now (memory .exit)) ⌝ }
+pub fn write(
+    registers: Registers,
+    stack: &[u64; STACK_LIMIT],
+    memory: &mut [u8; MEMORY_SIZE],
+) -> Executed
+    requires { ⌜ Tested registers ⌝ }
+    ensures { λ r. ⌜ OnBoth definition.write registers (now (stack .entry)) (now (memory .entry)) r (now (stack .entry)) (now (memory .exit)) ⌝ }
 {
-    let height = core.height;
+    let height = registers.height;
     if 2 <= height {
         let last = height - 1;
         let at = nan::as_u64(stack[last - 1]) as usize;
         let value = nan::as_u64(stack[last]);
         if at < MEMORY_SIZE {
             memory[at] = (value % 256) as u8;
-            onward(core, height - 2)
+            onward(registers, height - 2)
         } else {
-            trap(core, height - 2, 25)
+            trap(registers, height - 2, traps::ILLEGAL_MEMORY_ACCESS)
         }
     } else {
-        trap(core, height, 20)
+        trap(registers, height, traps::STACK_UNDERFLOW)
     }
 }

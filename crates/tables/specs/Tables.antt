@@ -1,6 +1,6 @@
 -- A lent table: a byte slice read as a list of numbers, eight bytes a number with the lowest first, and these as a list of records, four numbers a record.
 -- Up to 31 bytes left over at its end belong to no record.
-use Prim.Native.Nat.{ℕ}
+use Prim.Native.Nat.{ℕ, _+_, _*_}
 use mathlib.Core.List.{List, [], _∷_, _++_}
 use lib.ListN.{getD}
 use Rattle.word.specs.Words.{numberOf, eightOf}
@@ -50,6 +50,10 @@ instsOf bytes = recordsOf inst (numbersIn bytes)
 
 abbrev pub labelsOf : List ℕ → List Label
 labelsOf bytes = recordsOf label (numbersIn bytes)
+
+-- record i of an instruction table, by its numbers
+abbrev pub instOf : List ℕ → ℕ → Inst
+instOf bytes i = inst (numberAt bytes (i * 4)) (numberAt bytes (i * 4 + 1)) (numberAt bytes (i * 4 + 2)) (numberAt bytes (i * 4 + 3))
 
 -- what a run is lent
 abbrev pub program : List ℕ → List ℕ → List ℕ → ℕ → Program

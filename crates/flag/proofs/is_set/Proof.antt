@@ -11,4 +11,4 @@ unfolding isSet
 returns c = refl
 
 pub is-set-spec : {M : Type 1} → statement M
-is-set-spec = tie.close (tie.spec (λ c. search needs) (λ c. search needs) returns)
+is-set-spec = tie.close (tie.spec (λ c. search needs) (λ c. search needs) (λ c. search needs) returns)

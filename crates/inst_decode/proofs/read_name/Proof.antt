@@ -4,7 +4,7 @@ use native.Mathlib.Omega.{arith}
 use lib.ListN.{length}
 use borrow.Author.Tests.{lt-ltb, le-ltb, not-true, not-false}
 use Rattle.inst_decode.specs.Decode.{means, readName}
-use Rattle.inst.proofs.Laws.{lent}
+use Rattle.inst.proofs.Laws.{slice-of}
 use borrow.Author.Needs.{needs}
 use Rattle.inst_decode.proofs.read_name.Statement.{statement}
 use Rattle.inst_decode.proofs.read_name.Tie as tie
@@ -25,14 +25,14 @@ unfolding means readName
 returns-3 c =
     let s = c .before .before .before .before .before .before .before in
     let h : s .args .at + 9 + (s .args .field) % 2 ^ 48 ≤ length (s .args .image .now) = omega arith in
-    simp (← (c .before .before .before .before .before .is-negative .ensures), c .before .before .before .before .if1 .left, le-ltb _ _ h, ← (simp lent at (c .before .name-ok .ensures)), not-true (c .before .name-ok .result) (c .if3 .taken))
+    simp (← (c .before .before .before .before .before .is-negative .ensures), c .before .before .before .before .if1 .left, le-ltb _ _ h, ← (simp slice-of at (c .before .name-ok .ensures)), not-true (c .before .name-ok .result) (c .if3 .taken))
 
 returns-4 : tie.Need-returns-4
 unfolding means readName
 returns-4 c =
     let s = c .before .before .before .before .before .before .before in
     let h : s .args .at + 9 + (s .args .field) % 2 ^ 48 ≤ length (s .args .image .now) = omega arith in
-    simp (← (c .before .before .before .before .before .is-negative .ensures), c .before .before .before .before .if1 .left, le-ltb _ _ h, ← (simp lent at (c .before .name-ok .ensures)), not-false (c .before .name-ok .result) (c .if3 .left))
+    simp (← (c .before .before .before .before .before .is-negative .ensures), c .before .before .before .before .if1 .left, le-ltb _ _ h, ← (simp slice-of at (c .before .name-ok .ensures)), not-false (c .before .name-ok .result) (c .if3 .left))
 
 pub read-name-spec : {M : Type 1} → statement M
 read-name-spec =

@@ -1,22 +1,19 @@
 -- `known::is_well_formed_at` meets its contract. Assumes nothing.
+use mathlib.Core.Path.{sym, _∙_, ap}
+use native.Mathlib.Omega.{arith}
+use Rattle.inst.specs.declared.Inst.{Inst}
+use Rattle.inst.specs.Records.{wellFormed}
+use Rattle.machine.specs.Load.{halt}
+use Rattle.tables.specs.Tables.{inst}
+use Rattle.tables.proofs.Laws.{record-at}
 use borrow.Author.Needs.{needs}
 use Rattle.known.proofs.is_well_formed_at.Statement.{statement}
 use Rattle.known.proofs.is_well_formed_at.Tie as tie
 
 returns : tie.Need-returns
-returns c = rw (← (c .before .before .before .before .number-at .ensures), ← (c .before .before .before .number-at2 .ensures), ← (c .before .before .number-at3 .ensures), ← (c .before .number-at4 .ensures)) (c .is-well-formed .ensures)
+returns c =
+    c .is-well-formed .ensures
+    ∙ ap (λ (i : Inst). wellFormed (c .before .before .before .before .args .image .now) i) (c .before .inst-at .ensures halt ∙ record-at inst (c .before .before .before .before .args .insts .now) (c .before .before .before .before .args .at) halt (omega (arith, c .before .before .before .before .pre .1)))
 
 pub is-well-formed-at-spec : {M : Type 1} → statement M
-is-well-formed-at-spec =
-    tie.close
-    (tie.spec
-    (λ c. search needs)
-    (λ c κs. search needs)
-    (λ c. search needs)
-    (λ c κs. search needs)
-    (λ c. search needs)
-    (λ c κs. search needs)
-    (λ c. search needs)
-    (λ c κs. search needs)
-    (λ c κs. search needs)
-    returns)
+is-well-formed-at-spec = tie.close (tie.spec (λ c κs. search needs) (λ c κs. search needs) returns)

@@ -3,7 +3,7 @@ use mathlib.Core.Path.{refl, sym, _∙_}
 use mathlib.Core.Bool.{true, false}
 use native.Mathlib.Omega.{arith}
 use Rattle.inst.proofs.Facts.{typ-byte}
-use Rattle.known.specs.Known.{instOf}
+use Rattle.tables.specs.Tables.{instOf}
 use Rattle.known.proofs.Keeping.{plain-is}
 use borrow.Author.Needs.{needs}
 use Rattle.known.proofs.keep_plain.Statement.{statement}

@@ -1,47 +1,51 @@
 -- `loader::from_binary` meets its contract. Assumes nothing.
+use Prim.Native.Nat.{ℕ}
+use mathlib.Core.List.{List}
 use native.Mathlib.Omega.{arith}
-use lib.ListN.{length}
 use borrow.Author.Needs.{needs}
-use Rattle.loader.specs.Filling.{left}
-use Rattle.loader.proofs.LentBytes.{Underway, underway-begins, underway-on, underway-ends}
+use Rattle.tables.specs.Tables.{label, labelsOf}
+use Rattle.tables.proofs.Laws.{length-records}
+use Rattle.loader.specs.Loading.{loadOf, LoadInsts}
+use Rattle.loader.proofs.Passing.{left, left-falls, insts-inside}
+use Rattle.loader.proofs.LentBytes.{Underway, underway-begins, index-inside, underway-on, underway-ends}
 use Rattle.loader.proofs.from_binary.Statement.{statement}
 use Rattle.loader.proofs.from_binary.Tie as tie
 
 abbrev Inv-loop : tie.InvT-loop
-Inv-loop image insts₀ labels₀ p₀ insts labels p = Underway image insts₀ labels₀ p insts labels
+Inv-loop image insts labels₀ loading l₀ labels l = (insts₀ : List ℕ) → LoadInsts (loadOf image insts₀ labels₀) insts₀ loading insts → Underway image insts₀ labels₀ l labels
 
 abbrev μ-loop : tie.MeasureT-loop
-μ-loop image insts₀ labels₀ p₀ insts labels p = left (length image) (p .on) (p .counts .at)
+μ-loop image insts labels₀ loading l₀ labels l = left l
 
 loop-holds : tie.Need-loop-holds Inv-loop μ-loop
-loop-holds c = underway-begins _ _ _ _ (c .begin .ensures .0 _ _) (c .begin .ensures .1)
+loop-holds c insts₀ f = underway-begins _ _ _ _ _ f _ (c .head-link .ensures)
 
 link-requires : tie.Need-link-requires Inv-loop μ-loop
 link-requires c κs =
-    let u = c .before .before .loop .inv in
-    let k = u .fits (c .before .loop-test .taken) in
-    omega (arith, u .labels-long, k .1, k .3)
+    let f = c .before .before .before .before .before .before .load-insts .ensures (labelsOf _) (length-records label _) in
+    let k = index-inside _ _ _ _ _ (c .before .before .loop .inv _ f) (c .before .loop-test .taken) in
+    omega (arith, k)
 
-fill-requires : tie.Need-fill-requires Inv-loop μ-loop
-fill-requires c κs =
-    let u = c .before .before .before .before .before .before .loop .inv in
-    let k = u .fits (c .before .before .before .before .before .loop-test .taken) in
-    (omega (arith, u .insts-long, k .0), k .2)
+next-link-requires : tie.Need-next-link-requires Inv-loop μ-loop
+next-link-requires c κs =
+    let f = c .before .before .before .before .before .before .before .before .before .before .load-insts .ensures (labelsOf _) (length-records label _) in
+    insts-inside _ _ _ _ _ _ _ (c .before .before .before .before .before .before .loop .inv _ f) (c .before .before .before .before .before .loop-test .taken) _ (f .insts-are)
 
 loop-less : tie.Need-loop-less Inv-loop μ-loop
-loop-less c = rw (c .before .before .before .before .before .before .before .before .loop-test .taken) (c .before .before .fill .ensures .falls)
+loop-less c = left-falls _ _ _ (c .before .before .before .before .before .before .loop-test .taken) (c .next-link .ensures)
 
 loop-again : tie.Need-loop-again Inv-loop μ-loop
-loop-again c = underway-on _ _ _ _ _ (c .before .before .before .before .before .before .before .before .before .loop .insts) (c .before .before .before .before .before .before .before .before .before .loop .labels) _ _ (c .before .before .before .before .before .before .before .before .loop-test .taken) (c .before .before .before .before .before .before .before .before .before .loop .inv) (c .before .before .before .before .before .before .link .ensures) (c .before .before .fill .ensures) (search needs) (search needs)
-
-same-length : tie.Need-same-length Inv-loop μ-loop
-same-length c = c .before .before .loop .inv .insts-long
+loop-again c insts₀ f = underway-on _ _ _ _ _ (c .before .before .before .before .before .before .before .loop .inv _ f) (c .before .before .before .before .before .before .loop-test .taken) _ (f .insts-are) _ _ (c .before .before .before .before .link .ensures) (c .next-link .ensures) (search needs)
 
 same-length-2 : tie.Need-same-length-2 Inv-loop μ-loop
-same-length-2 c = c .before .before .loop .inv .labels-long
+same-length-2 c =
+    let f = c .before .before .before .before .before .load-insts .ensures (labelsOf _) (length-records label _) in
+    c .before .loop .inv _ f .labels-long
 
 returns : tie.Need-returns Inv-loop μ-loop
-returns c = underway-ends _ _ _ _ _ _ _ (c .before .loop-test .left) (c .before .before .loop .inv) (c .answer .ensures)
+returns c =
+    let f = c .before .before .before .before .before .load-insts .ensures (labelsOf _) (length-records label _) in
+    underway-ends _ _ _ _ _ _ _ (c .loop-test .left) (c .before .loop .inv _ f) f
 
 pub from-binary-spec : {M : Type 1} → statement M
 from-binary-spec =
@@ -50,12 +54,12 @@ from-binary-spec =
     Inv-loop
     μ-loop
     (λ c κs. search needs)
+    (λ c κs. search needs)
     loop-holds
     link-requires
-    fill-requires
+    next-link-requires
     loop-less
     loop-again
-    (λ c κs. search needs)
-    same-length
+    (λ c. search needs)
     same-length-2
     returns)

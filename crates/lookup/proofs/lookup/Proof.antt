@@ -7,13 +7,13 @@ use Rattle.inst.specs.declared.Inst.{Inst}
 use Rattle.machine.specs.Load.{head}
 use Rattle.tables.specs.Tables.{labelsOf, label}
 use Rattle.tables.proofs.Laws.{length-records}
-use Rattle.lookup.specs.Walks.{lent, Walks}
+use Rattle.lookup.specs.Walks.{lentProgram, Walks}
 use Rattle.lookup.proofs.Bytes.{in-image}
 use Rattle.lookup.proofs.lookup.Statement.{statement}
 use Rattle.lookup.proofs.lookup.Tie as tie
 
 abbrev Inv-loop : tie.InvT-loop
-Inv-loop image labels count start len w₀ w = (insts : List Inst) → Walks (lent image insts (labelsOf labels) count) start len w
+Inv-loop image labels count start len w₀ w = (insts : List Inst) → Walks (lentProgram image insts (labelsOf labels) count) start len w
 
 abbrev μ-loop : tie.MeasureT-loop
 μ-loop image labels count start len w₀ w = w .bound

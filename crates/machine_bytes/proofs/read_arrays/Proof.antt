@@ -1,7 +1,7 @@
 -- `machine_bytes::read_arrays` meets its contract. Assumes nothing.
 use mathlib.Core.Path.{ap, sym, _∙_}
 use native.Mathlib.Omega.{arith}
-use Rattle.inst.proofs.Laws.{lent}
+use Rattle.inst.proofs.Laws.{slice-of}
 use Rattle.tables.specs.Tables.{numbersIn}
 use Rattle.machine_bytes.specs.Layout.{machineOf, callsAt, memoryAt, heightAt}
 use Rattle.machine_bytes.proofs.Fields.{copied, part-long}
@@ -15,9 +15,9 @@ copy-requires c κs = omega (arith, part-long (c .before .before .before .before
 returns : tie.Need-returns
 unfolding machineOf
 returns c = (
-  c .before .before .before .before .before .before .read-numbers .ensures ∙ ap numbersIn (lent 0 callsAt (c .before .before .before .before .before .before .before .before .before .before .args .machine .now)),
-  c .before .before .before .read-numbers2 .ensures ∙ ap numbersIn (lent callsAt memoryAt (c .before .before .before .before .before .before .before .before .before .before .args .machine .now)),
-  copied _ _ _ (part-long (c .before .before .before .before .before .before .before .before .before .before .args .machine .now) (c .before .before .before .before .before .before .before .before .before .before .pre) ∙ sym (c .before .copy-arg2 .given .0 .1)) (c .copy .ensures .1) ∙ lent memoryAt heightAt (c .before .before .before .before .before .before .before .before .before .before .args .machine .now),
+  c .before .before .before .before .before .before .read-numbers .ensures ∙ ap numbersIn (slice-of 0 callsAt (c .before .before .before .before .before .before .before .before .before .before .args .machine .now)),
+  c .before .before .before .read-numbers2 .ensures ∙ ap numbersIn (slice-of callsAt memoryAt (c .before .before .before .before .before .before .before .before .before .before .args .machine .now)),
+  copied _ _ _ (part-long (c .before .before .before .before .before .before .before .before .before .before .args .machine .now) (c .before .before .before .before .before .before .before .before .before .before .pre) ∙ sym (c .before .copy-arg2 .given .0 .1)) (c .copy .ensures .1) ∙ slice-of memoryAt heightAt (c .before .before .before .before .before .before .before .before .before .before .args .machine .now),
 )
 
 pub read-arrays-spec : {M : Type 1} → statement M

@@ -5,7 +5,7 @@ use Rattle.machine_bytes.proofs.write_parts.Statement.{statement}
 use Rattle.machine_bytes.proofs.write_parts.Tie as tie
 
 returns : tie.Need-returns
-returns c = parts-stored _ _ _ (c .before .before .before .before .before .before .before .before .before .args .machine .now) (c .before .before .before .before .before .before .before .before .before .args .stack .now) (c .before .before .before .before .before .before .before .before .before .args .calls .now) (c .before .before .before .before .before .before .before .before .before .args .memory .now) _ _ (c .before .before .before .before .before .before .before .before .before .pre) (c .before .before .before .before .before .before .write-arrays .ensures .0) (c .before .before .before .before .before .before .write-arrays .ensures .1) (c .before .before .write-core .ensures)
+returns c = parts-stored _ _ _ (c .before .before .before .before .before .before .before .before .before .args .machine .now) (c .before .before .before .before .before .before .before .before .before .args .stack .now) (c .before .before .before .before .before .before .before .before .before .args .calls .now) (c .before .before .before .before .before .before .before .before .before .args .memory .now) _ _ (c .before .before .before .before .before .before .before .before .before .pre) (c .before .before .before .before .before .before .write-arrays .ensures .0) (c .before .before .before .before .before .before .write-arrays .ensures .1) (c .before .before .write-registers .ensures)
 
 pub write-parts-spec : {M : Type 1} → statement M
 write-parts-spec =

@@ -15,8 +15,8 @@ returns c = rw (sym (c .before .is-machine .ensures) ∙ not-true _ (c .if1 .tak
 read-arrays-requires : tie.Need-read-arrays-requires
 read-arrays-requires c κs = machine-long _ (sym (c .before .before .before .before .before .is-machine .ensures) ∙ not-false _ (c .before .before .before .before .if1 .left))
 
-core-of-requires : tie.Need-core-of-requires
-core-of-requires c κs = machine-long _ (sym (c .before .before .before .before .before .before .before .is-machine .ensures) ∙ not-false _ (c .before .before .before .before .before .before .if1 .left))
+registers-of-requires : tie.Need-registers-of-requires
+registers-of-requires c κs = machine-long _ (sym (c .before .before .before .before .before .before .before .is-machine .ensures) ∙ not-false _ (c .before .before .before .before .before .before .if1 .left))
 
 flags-of-requires : tie.Need-flags-of-requires
 flags-of-requires c κs = machine-long _ (sym (c .before .before .before .before .before .before .before .before .before .is-machine .ensures) ∙ not-false _ (c .before .before .before .before .before .before .before .before .if1 .left))
@@ -33,7 +33,7 @@ ran-requires c κs = within (c .before .before .before .before .before .before .
 returns-2 : tie.Need-returns-2
 returns-2 c =
     run-call _ _ _ _ _ _ _ _ _ _ _ _ _ _ _ (sym (c .before .before .before .before .before .before .before .before .before .before .before .before .before .before .before .before .before .before .before .before .before .before .before .before .before .before .before .before .is-machine .ensures) ∙ not-false _ (c .before .before .before .before .before .before .before .before .before .before .before .before .before .before .before .before .before .before .before .before .before .before .before .before .before .before .before .if1 .left))
-    (read-is _ _ _ _ _ _ _ (c .before .before .before .before .before .before .before .before .before .before .before .before .before .before .before .before .before .before .before .before .before .before .read-arrays .ensures) (c .before .before .before .before .before .before .before .before .before .before .before .before .before .before .before .before .before .before .before .before .core-of .ensures) (c .before .before .before .before .before .before .before .before .before .before .before .before .before .before .before .before .before .before .flags-of .ensures) (c .before .before .before .before .before .before .before .before .before .before .before .before .before .before .before .before .is-halted .ensures))
+    (read-is _ _ _ _ _ _ _ (c .before .before .before .before .before .before .before .before .before .before .before .before .before .before .before .before .before .before .before .before .before .before .read-arrays .ensures) (c .before .before .before .before .before .before .before .before .before .before .before .before .before .before .before .before .before .before .before .before .registers-of .ensures) (c .before .before .before .before .before .before .before .before .before .before .before .before .before .before .before .before .before .before .flags-of .ensures) (c .before .before .before .before .before .before .before .before .before .before .before .before .before .before .before .before .is-halted .ensures))
     (c .before .before .before .before .before .before .before .before .before .before .before .execute-parts .ensures)
     (c .before .before .before .write-parts .ensures)
     (c .ran .ensures)
@@ -46,7 +46,7 @@ mm-run-spec =
     (λ c. search needs)
     returns
     read-arrays-requires
-    core-of-requires
+    registers-of-requires
     flags-of-requires
     is-halted-requires
     (λ c κs. search needs)

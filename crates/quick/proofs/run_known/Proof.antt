@@ -3,18 +3,18 @@ use Prim.Native.Nat.{_-_}
 use mathlib.Core.Path.{refl}
 use mathlib.Core.Bool.{false}
 use borrow.Author.Needs.{needs}
-use Rattle.step_core.specs.Parts.{whole}
+use Rattle.step_core.specs.Parts.{ofParts}
 use Rattle.quick.specs.Courses.{Leads}
 use Rattle.quick.proofs.Steps.{begun, success-on, stopped-at}
 use Rattle.quick.proofs.run_known.Statement.{statement}
 use Rattle.quick.proofs.run_known.Tie as tie
 
 abbrev Inv-loop : tie.InvT-loop
-Inv-loop insts keys targets f stack₀ calls₀ memory₀ steps core₀ flags₀ left₀ stack calls memory core flags left =
-    Leads insts keys targets (whole core₀ f stack₀ calls₀ memory₀ false) steps (record { core = core; left = left; flags = flags }) stack calls memory
+Inv-loop insts keys targets f stack₀ calls₀ memory₀ steps core₀ flags₀ left₀ stack calls memory registers flags left =
+    Leads insts keys targets (ofParts core₀ f stack₀ calls₀ memory₀ false) steps (record { registers = registers; left = left; flags = flags }) stack calls memory
 
 abbrev μ-loop : tie.MeasureT-loop
-μ-loop insts keys targets f stack₀ calls₀ memory₀ steps core₀ flags₀ left₀ stack calls memory core flags left = left
+μ-loop insts keys targets f stack₀ calls₀ memory₀ steps core₀ flags₀ left₀ stack calls memory registers flags left = left
 
 loop-holds : tie.Need-loop-holds Inv-loop μ-loop
 loop-holds c = begun _ _ _ _ _ _ _ _ _ (search needs)
@@ -23,13 +23,13 @@ returns : tie.Need-returns Inv-loop μ-loop
 returns c = rw (c .stopped .ensures) (c .before .before .before .loop .inv)
 
 execute-known-requires : tie.Need-execute-known-requires Inv-loop μ-loop
-execute-known-requires c κs = (c .before .before .before .before .before .before .loop .inv .small, search needs, c .before .before .before .before .before .before .before .before .pre .1 _ (c .before .before .before .before .if1 .left))
+execute-known-requires c κs = (c .before .before .before .before .before .before .before .loop .inv .small, search needs, rw (c .before .before .before .op-of .ensures) (c .before .before .before .before .before .before .before .before .before .pre .1 _ (c .before .before .before .before .before .if1 .left)))
 
 loop-again : tie.Need-loop-again Inv-loop μ-loop
-loop-again c = success-on _ _ _ _ _ _ _ _ _ _ _ (c .before .before .before .before .before .before .before .before .before .before .loop .inv) (c .before .before .before .before .before .before .before .before .before .loop-test .taken) (c .before .before .before .before .before .before .before .before .if1 .left) _ _ _ _ _ (λ found start len finds. rw (c .before .answer .given .1) at (c .before .before .before .execute-known .ensures found start len finds))
+loop-again c = success-on _ _ _ _ _ _ _ _ _ _ _ (c .before .before .before .before .before .before .before .before .before .before .before .loop .inv) (c .before .before .before .before .before .before .before .before .before .before .loop-test .taken) (c .before .before .before .before .before .before .before .before .before .if1 .left) _ _ _ _ _ (λ found start len finds. rw (c .before .answer .given .1) at ((rw (c .before .before .before .before .before .before .before .op-of .ensures) at (c .before .before .before .execute-known .ensures)) found start len finds))
 
 returns-2 : tie.Need-returns-2 Inv-loop μ-loop
-returns-2 c = rw (c .stopped2 .ensures) (stopped-at _ _ _ _ _ _ _ _ _ _ _ (c .before .before .before .before .before .before .before .before .before .before .loop .inv) _ _ _ ((rw (c .before .enum-told .given .1) at (c .before .before .before .execute-known .ensures _ 0 0 (λ _. refl))) .holds))
+returns-2 c = rw (c .stopped2 .ensures) (stopped-at _ _ _ _ _ _ _ _ _ _ _ (c .before .before .before .before .before .before .before .before .before .before .before .loop .inv) _ _ _ ((rw (c .before .enum-told .given .1, c .before .before .before .before .before .before .before .op-of .ensures) at (c .before .before .before .execute-known .ensures _ 0 0 (λ _. refl))) .holds))
 
 returns-3 : tie.Need-returns-3 Inv-loop μ-loop
 returns-3 c = rw (c .stopped3 .ensures) (c .before .before .loop .inv)
@@ -45,6 +45,7 @@ run-known-spec =
     (λ c κs. search needs)
     returns
     (λ c. search needs)
+    (λ c κs. search needs)
     execute-known-requires
     (λ c. search needs)
     (λ c. search needs)

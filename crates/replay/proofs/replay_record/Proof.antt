@@ -5,7 +5,7 @@ use native.Mathlib.Nat.{le-trans, min-le-left}
 use native.Mathlib.Omega.{arith}
 use borrow.Author.Needs.{needs}
 use lib.ListN.{length, take, length-take}
-use Rattle.trace.proofs.Replaying.{replay-most}
+use Rattle.digests.proofs.Replaying.{replay-most}
 use Rattle.replay.proofs.replay_record.Statement.{statement}
 use Rattle.replay.proofs.replay_record.Tie as tie
 

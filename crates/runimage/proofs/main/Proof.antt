@@ -4,7 +4,7 @@ use mathlib.Core.Path.{sym}
 use lib.ListN.{length, take}
 use lib.Seq.{length-take-le}
 use borrow.Author.Needs.{needs}
-use Rattle.session.proofs.Printed.{put-fits}
+use Rattle.transcript.proofs.Printed.{put-fits}
 use Rattle.runimage.specs.Reading.{Fits}
 use Rattle.runimage.proofs.main.Statement.{statement}
 use Rattle.runimage.proofs.main.Tie as tie

@@ -1,6 +1,5 @@
 -- `step::execute_jump` meets its contract. Assumes nothing.
 use mathlib.Core.Path.{refl, _∙_}
-use native.Mathlib.Omega.{arith}
 use Rattle.machine.specs.Step.{exec, opOf}
 use Rattle.step.proofs.Dispatch.{in-jumps, jcc-at}
 use Rattle.step.proofs.Whole.{acted, as-is}
@@ -19,9 +18,6 @@ unfolding exec opOf
 returns-2 c v start len s me =
     as-is (acted _ _ (c .jump .ensures s (c .before .before .before .args .calls .now) me)) (rw (c .before .if2 .taken) refl)
 
-cast-jump-if : tie.Need-cast-jump-if
-cast-jump-if c = let j = in-jumps _ (c .before .before .pre .1) (c .if2 .left) (c .before .if1 .left) in record { fits = omega (arith, j .1) }
-
 jump-if-requires : tie.Need-jump-if-requires
 jump-if-requires c κs = let j = in-jumps _ (c .before .before .pre .1) (c .if2 .left) (c .before .if1 .left) in (c .before .before .pre .0, j .0, j .1)
 
@@ -39,6 +35,5 @@ execute-jump-spec =
     returns
     (λ c κs. search needs)
     returns-2
-    cast-jump-if
     jump-if-requires
     returns-3)

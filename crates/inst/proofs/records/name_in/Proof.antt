@@ -4,7 +4,7 @@ use native.Mathlib.Omega.{arith}
 use lib.ListN.{length}
 use borrow.Author.Tests.{le-leb, lt-leb}
 use Rattle.inst.specs.Records.{nameIn}
-use Rattle.inst.proofs.Laws.{lent}
+use Rattle.inst.proofs.Laws.{slice-of}
 use borrow.Author.Needs.{needs}
 use Rattle.inst.proofs.records.name_in.Statement.{statement}
 use Rattle.inst.proofs.records.name_in.Tie as tie
@@ -28,7 +28,7 @@ unfolding nameIn
 returns-3 c =
     let s = c .before .before .before .before .before in
     let h : s .args .start + s .args .len ≤ length (s .args .image .now) = omega arith in
-    simp (le-leb _ _ h, ← (simp lent at (c .name-ok .ensures)))
+    simp (le-leb _ _ h, ← (simp slice-of at (c .name-ok .ensures)))
 
 pub name-in-spec : {M : Type 1} → statement M
 name-in-spec =

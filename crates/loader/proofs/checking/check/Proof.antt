@@ -35,21 +35,22 @@ returns-2 c =
 
 loop-less : tie.Need-loop-less Inv-loop μ-loop
 loop-less c =
-    let f = further _ _ _ _ _ (c .before .before .before .next-inst .ensures .1) (c .before .did2 .given .1) in
-    omega (arith, f .moves, f .inside)
+    let e = c .anew .ensures in
+    let f = further _ _ _ _ (c .before .before .before .before .next-inst .ensures .1) (c .before .before .did2 .given .1) in
+    rw e (omega (arith, f .moves, f .inside))
 
 loop-again : tie.Need-loop-again Inv-loop μ-loop
 loop-again c =
-    let k = c .before .before .before .before .before .before .before .loop .inv in
-    checking-next _ _ k (c .before .before .before .before .before .if2 .taken) _ _ (further _ _ _ _ _ (c .before .before .before .next-inst .ensures .1) (c .before .did2 .given .1)) (sym (c .before .did2 .given .1) ∙ c .before .before .before .next-inst .ensures .0 (k .reached) (k .has-head) (k .counts-are))
+    let k = c .before .before .before .before .before .before .before .before .loop .inv in
+    rw (c .anew .ensures) (checking-next _ _ k (c .before .before .before .before .before .before .if2 .taken) _ (further _ _ _ _ (c .before .before .before .before .next-inst .ensures .1) (c .before .before .did2 .given .1)) (sym (c .before .before .did2 .given .1) ∙ c .before .before .before .before .next-inst .ensures .0 (k .reached) (k .has-head) (k .counts-are)))
 
-judge-requires : tie.Need-judge-requires Inv-loop μ-loop
-judge-requires c κs = c .before .before .loop .inv .fit
+finish-requires : tie.Need-finish-requires Inv-loop μ-loop
+finish-requires c κs = c .before .before .loop .inv .fit
 
 returns-3 : tie.Need-returns-3 Inv-loop μ-loop
 returns-3 c =
     let k = c .before .before .before .loop .inv in
-    rw (loads-is _ (c .before .before .before .before .before .before .if1 .left)) (c .judge .ensures _ (k .reached) (k .counts-are) ∙ ap answerOf (ends-there _ _ _ (k .reached) (k .counts-are) (k .rest) (c .before .if2 .left)))
+    rw (loads-is _ (c .before .before .before .before .before .before .if1 .left)) (c .finish .ensures _ (k .reached) (k .counts-are) ∙ ap answerOf (ends-there _ _ _ (k .reached) (k .counts-are) (k .rest) (c .before .if2 .left)))
 
 pub check-spec : {M : Type 1} → statement M
 check-spec =
@@ -65,7 +66,8 @@ check-spec =
     (λ c. search needs)
     returns-2
     (λ c. search needs)
+    (λ c κs. search needs)
     loop-less
     loop-again
-    judge-requires
+    finish-requires
     returns-3)

@@ -1,63 +1,76 @@
 -- `loader::filling::fill` meets its contract. Assumes nothing.
-use Prim.Native.Nat.{_*_, _-_, _≤_}
-use mathlib.Core.Path.{_≡_, refl, _∙_}
+use Prim.Native.Nat.{_*_, _-_}
+use mathlib.Core.Path.{_≡_, refl, sym, ap, _∙_}
 use native.Mathlib.Omega.{arith}
 use lib.ListN.{length}
 use borrow.Author.Needs.{needs}
+use Rattle.inst_decode.specs.Decode.{means}
+use Rattle.inst_decode.proofs.Facts.{read-in}
 use Rattle.tables.specs.Tables.{bytesOf, instNumbers}
-use Rattle.loader.proofs.Rests.{further}
+use Rattle.loader.proofs.Instructions.{refused-is}
+use Rattle.loader.proofs.Loads.{accepted-fits}
 use Rattle.loader.proofs.Stores.{put-long}
-use Rattle.loader.proofs.Fillings.{Leads, leads-begin, leads-more, fills-end, fills-never, fills-label}
+use Rattle.loader.proofs.Fillings.{Filling, filling-begins, filling-next, filling-room, filling-never, filling-ends}
 use Rattle.loader.proofs.filling.fill.Statement.{statement}
 use Rattle.loader.proofs.filling.fill.Tie as tie
 
 abbrev Inv-loop : tie.InvT-loop
-Inv-loop image insts₀ p forms c₀ insts c = (length insts ≡ length insts₀) × (p .counts .at ≤ c .at) × Leads image insts₀ p c insts
+Inv-loop image insts₀ count forms at₀ n₀ insts at n = (length insts ≡ length insts₀) × Filling image insts₀ at n insts
 
 abbrev μ-loop : tie.MeasureT-loop
-μ-loop image insts₀ p forms c₀ insts c = length image - c .at
+μ-loop image insts₀ count forms at₀ n₀ insts at n = length image - at
 
 loop-holds : tie.Need-loop-holds Inv-loop μ-loop
-loop-holds c = (refl, omega arith, leads-begin _ _ _)
+loop-holds c = (refl, filling-begins _ _)
 
-next-inst-requires : tie.Need-next-inst-requires Inv-loop μ-loop
-next-inst-requires c κs = c .before .before .before .before .before .form-table .ensures
+decode-requires : tie.Need-decode-requires Inv-loop μ-loop
+decode-requires c κs = c .before .before .before .form-table .ensures
 
 returns : tie.Need-returns Inv-loop μ-loop
-returns c = fills-never _ _ _ _ _ (c .before .before .before .before .before .before .before .loop .inv .2) (c .before .before .before .before .before .if1 .taken) _ (c .before .before .before .next-inst .ensures .0) _ (c .before .enum-told .given .1) _ (c .ended .ensures)
+returns c =
+    filling-never _ _ _ _ _ (c .before .before .before .before .loop .inv .1) (c .before .before .before .loop-test .taken) _ (c .before .before .before .before .before .before .before .before .pre .0) _ (sym (c .before .decode .ensures) ∙ refused-is (c .before .decode .result) (c .match .keys2))
 
 put-requires : tie.Need-put-requires Inv-loop μ-loop
+unfolding means
 put-requires c κs =
-    let f = further _ _ _ _ _ (c .before .before .before .before .next-inst .ensures .1) (c .before .before .did .given .1) in
-    let p = c .before .before .before .before .before .before .before .before .before .before .before .before .before .pre in
-    omega (arith, f .one-more, f .insts-fit, c .before .before .before .before .before .before .before .before .loop .inv .0)
+    let r = filling-room _ _ _ _ _ (c .before .before .before .before .before .before .before .loop .inv .1) (c .before .before .before .before .before .before .loop-test .taken) _ _ (sym (c .before .before .before .before .decode .ensures) ∙ ap means (c .before .before .did .given .1)) _ (c .before .before .before .before .before .before .before .before .before .before .before .pre .0) in
+    omega (arith, r, c .before .before .before .before .before .before .before .loop .inv .0, c .before .before .before .before .before .before .before .before .before .before .before .pre .1)
 
-same-length-2 : tie.Need-same-length-2 Inv-loop μ-loop
-same-length-2 c = put-long (c .before .before .before .before .before .before .before .before .before .before .before .before .before .before .loop .insts) _ (bytesOf (instNumbers (c .before .before .before .before .before .before .before .before .did .given .0 .1 .0))) (c .before .before .before .before .before .before .before .before .before .before .before .before .before .before .loop .c .insts * 32) (c .before .before .before .before .before .put .ensures) ∙ c .before .before .before .before .before .before .before .before .before .before .before .before .before .before .loop .inv .0
+add-at : tie.Need-add-at Inv-loop μ-loop
+unfolding means
+add-at c =
+    let k = read-in _ _ _ _ (sym (c .before .before .before .before .before .before .before .decode .ensures) ∙ ap means (c .before .before .before .before .before .did .given .1)) .inside in
+    let n = c .before .before .before .before .before .before .before .before .before .before .before .before .before .shared-slice-known .given in
+    record { fits = omega (arith, k) }
 
-returns-2 : tie.Need-returns-2 Inv-loop μ-loop
-returns-2 c =
-    let f = further _ _ _ _ _ (c .before .before .before .before .before .before .before .before .before .before .next-inst .ensures .1) (c .before .before .before .before .before .before .before .before .did .given .1) in
-    fills-label _ _ _ _ _ (c .before .before .before .before .before .before .before .before .before .before .before .before .before .before .loop .inv .2) (c .before .before .before .before .before .before .before .before .before .before .before .before .if1 .taken) _ (c .before .before .before .before .before .before .before .before .before .before .next-inst .ensures .0) _ _ (c .before .before .before .before .before .before .before .before .did .given .1) f _ (c .before .before .before .before .before .put .ensures) (c .before .before .before .before .before .before .before .before .before .before .before .before .before .before .loop .inv .1) (c .before .if2 .taken) _ (c .paused .ensures)
+add-n : tie.Need-add-n Inv-loop μ-loop
+unfolding means
+add-n c =
+    let r = filling-room _ _ _ _ _ (c .before .before .before .before .before .before .before .before .before .before .loop .inv .1) (c .before .before .before .before .before .before .before .before .before .loop-test .taken) _ _ (sym (c .before .before .before .before .before .before .before .decode .ensures) ∙ ap means (c .before .before .before .before .before .did .given .1)) _ (c .before .before .before .before .before .before .before .before .before .before .before .before .before .before .pre .0) in
+    record { fits = omega (arith, r) }
 
 loop-less : tie.Need-loop-less Inv-loop μ-loop
+unfolding means
 loop-less c =
-    let f = further _ _ _ _ _ (c .before .before .before .before .before .before .before .before .before .next-inst .ensures .1) (c .before .before .before .before .before .before .before .did .given .1) in
-    omega (arith, f .moves, f .inside)
+    let k = read-in _ _ _ _ (sym (c .before .before .before .before .before .before .before .decode .ensures) ∙ ap means (c .before .before .before .before .before .did .given .1)) in
+    omega (arith, k .moves, k .inside)
 
 loop-again : tie.Need-loop-again Inv-loop μ-loop
-loop-again c =
-    let f = further _ _ _ _ _ (c .before .before .before .before .before .before .before .before .before .next-inst .ensures .1) (c .before .before .before .before .before .before .before .did .given .1) in (
-      put-long (c .before .before .before .before .before .before .before .before .before .before .before .before .before .loop .insts) _ (bytesOf (instNumbers (c .before .before .before .before .before .before .before .did .given .0 .1 .0))) (c .before .before .before .before .before .before .before .before .before .before .before .before .before .loop .c .insts * 32) (c .before .before .before .before .put .ensures) ∙ c .before .before .before .before .before .before .before .before .before .before .before .before .before .loop .inv .0,
-      omega (arith, f .moves, c .before .before .before .before .before .before .before .before .before .before .before .before .before .loop .inv .1),
-      leads-more _ _ _ _ _ (c .before .before .before .before .before .before .before .before .before .before .before .before .before .loop .inv .2) (c .before .before .before .before .before .before .before .before .before .before .before .if1 .taken) _ (c .before .before .before .before .before .before .before .before .before .next-inst .ensures .0) _ _ (c .before .before .before .before .before .before .before .did .given .1) f _ (c .before .before .before .before .put .ensures) (c .if2 .left),
-    )
+unfolding means
+loop-again c = (
+  put-long (c .before .before .before .before .before .before .before .before .before .before .loop .insts) _ (bytesOf (instNumbers (c .before .before .before .before .before .did .given .0 .0))) (c .before .before .before .before .before .before .before .before .before .before .loop .n * 32) (c .before .before .put .ensures) ∙ c .before .before .before .before .before .before .before .before .before .before .loop .inv .0,
+  filling-next _ _ _ _ _ (c .before .before .before .before .before .before .before .before .before .before .loop .inv .1) (c .before .before .before .before .before .before .before .before .before .loop-test .taken) _ _ (sym (c .before .before .before .before .before .before .before .decode .ensures) ∙ ap means (c .before .before .before .before .before .did .given .1)) _ (c .before .before .put .ensures),
+)
 
 close-requires : tie.Need-close-requires Inv-loop μ-loop
-close-requires c κs = let p = c .before .before .before .before .before .before .before .before .pre in omega (arith, c .before .before .before .loop .inv .0)
+close-requires c κs =
+    let a = c .before .before .before .before .before .before .pre .0 in
+    let k = accepted-fits _ (a .loaded) (a .is) in
+    let n = a .count-is in
+    omega (arith, k, n, c .before .before .before .before .before .before .pre .1, c .before .before .loop .inv .0)
 
-returns-3 : tie.Need-returns-3 Inv-loop μ-loop
-returns-3 c = fills-end _ _ _ _ _ (c .before .before .before .before .before .before .before .loop .inv .2) (c .before .before .before .before .before .if1 .left) _ (c .before .before .before .close .ensures) _ (c .ended2 .ensures)
+returns-2 : tie.Need-returns-2 Inv-loop μ-loop
+returns-2 c = filling-ends _ _ _ _ _ (c .before .before .before .before .before .loop .inv .1) (c .before .before .before .before .loop-test .left) _ (c .before .before .before .before .before .before .before .before .before .pre .0) _ (c .before .before .close .ensures)
 
 pub fill-spec : {M : Type 1} → statement M
 fill-spec =
@@ -67,19 +80,15 @@ fill-spec =
     μ-loop
     (λ c κs. search needs)
     loop-holds
-    next-inst-requires
+    decode-requires
     (λ c. search needs)
-    (λ c. search needs)
-    (λ c κs. search needs)
     (λ c. search needs)
     returns
     put-requires
-    (λ c κs. search needs)
-    same-length-2
-    returns-2
+    add-at
+    add-n
     loop-less
     loop-again
     close-requires
-    (λ c κs. search needs)
     (λ c. search needs)
-    returns-3)
+    returns-2)

@@ -1,12 +1,12 @@
 -- `loader::reading::next_inst` meets its contract. Assumes nothing.
-use mathlib.Core.Path.{sym, ap, _∙_}
+use mathlib.Core.Path.{refl, sym, ap, _∙_}
 use native.Mathlib.Omega.{arith}
-use Rattle.inst.specs.Records.{part}
+use Rattle.inst.specs.Records.{part, same}
 use Rattle.inst_decode.specs.Decode.{means}
-use Rattle.machine.specs.Load.{same, startName}
+use Rattle.machine.specs.Load.{startName}
 use Rattle.inst_decode.proofs.Facts.{read-in}
 use Rattle.loader.specs.Reading.{Ahead}
-use Rattle.loader.proofs.Instructions.{refused-is, next-refused, next-five, next-six, next-plain, next-label, further-plain, further-label}
+use Rattle.loader.proofs.Instructions.{refused-is, next-refused, next-five, next-six, next-plain, next-label, further-at}
 use borrow.Author.Needs.{needs}
 use Rattle.loader.proofs.reading.next_inst.Statement.{statement}
 use Rattle.loader.proofs.reading.next_inst.Tie as tie
@@ -32,7 +32,7 @@ returns-3 : tie.Need-returns-3
 unfolding Ahead means
 returns-3 c =
     let f = (sym (c .before .before .before .before .before .before .before .before .decode .ensures) ∙ ap means (c .before .before .before .before .before .before .did .given .1)) in
-    rw (c .before .before .counted .ensures) (λ s h e. next-plain _ _ s e _ _ f (c .before .before .before .if1 .left) (c .if2 .taken), further-plain _ _ _ _ f (c .before .before .before .if1 .left) (c .if2 .taken))
+    rw (c .before .before .counted .ensures) (λ s h e. next-plain _ _ s e _ _ f (c .before .before .before .if1 .left) (c .if2 .taken), further-at _ _ _ _ f (c .before .before .before .if1 .left) _ refl refl)
 
 returns-4 : tie.Need-returns-4
 unfolding Ahead means
@@ -49,9 +49,8 @@ returns-5 : tie.Need-returns-5
 unfolding Ahead means
 returns-5 c =
     let f = (sym (c .before .before .before .before .before .before .before .before .before .before .before .before .decode .ensures) ∙ ap means (c .before .before .before .before .before .before .before .before .before .before .did .given .1)) in
-    let i = c .before .before .before .before .before .before .before .before .before .before .did .given .0 .0 in
     rw (c .labelled .ensures, c .before .before .before .before .before .before .counted .ensures, c .before .is-start .ensures)
-    (λ s h e. next-label _ _ s e _ _ f h (c .before .before .before .before .before .before .before .if1 .left) (c .before .before .before .before .if2 .left) (c .before .before .if3 .left), further-label _ _ _ _ f (c .before .before .before .before .before .before .before .if1 .left) (same startName (part (c .before .before .before .before .before .before .before .before .before .before .before .before .before .before .args .image .now) (i .start) (i .len))) (c .before .before .if3 .left))
+    (λ s h e. next-label _ _ s e _ _ f h (c .before .before .before .before .before .before .before .if1 .left) (c .before .before .before .before .if2 .left) (c .before .before .if3 .left), further-at _ _ _ _ f (c .before .before .before .before .before .before .before .if1 .left) _ refl refl)
 
 pub next-inst-spec : {M : Type 1} → statement M
 next-inst-spec =

@@ -1,0 +1,5 @@
+pub mod Tests
+pub mod Again
+pub mod Local
+pub mod Words
+pub mod Whole

@@ -1,0 +1,20 @@
+-- `loader::checking::finish` meets its contract. Assumes nothing.
+use Rattle.loader.proofs.Ends.{was-false, was-true, no-entry, too-many, has-native, accepted-there}
+use borrow.Author.Needs.{needs}
+use Rattle.loader.proofs.checking.finish.Statement.{statement}
+use Rattle.loader.proofs.checking.finish.Tie as tie
+
+returns : tie.Need-returns
+returns c image s e = no-entry image _ s e (was-false _ (c .if1 .taken))
+
+returns-2 : tie.Need-returns-2
+returns-2 c image s e = too-many image _ s e (was-true _ (c .before .before .if1 .left)) _ (c .before .closed-count .ensures) (c .if2 .taken)
+
+returns-3 : tie.Need-returns-3
+returns-3 c image s e = has-native image _ s e (was-true _ (c .before .before .before .if1 .left)) _ (c .before .before .closed-count .ensures) (c .before .if2 .left) (c .if3 .taken)
+
+returns-4 : tie.Need-returns-4
+returns-4 c image s e = accepted-there image _ s e (was-true _ (c .before .before .before .if1 .left)) _ (c .before .before .closed-count .ensures) (c .before .if2 .left) (c .if3 .left)
+
+pub finish-spec : {M : Type 1} → statement M
+finish-spec = tie.close (tie.spec returns (λ c κs. search needs) returns-2 returns-3 returns-4)
