@@ -11,7 +11,7 @@ use lib.Dec.{T, leb, ltb, eqb, lit<}
 use Rattle.binary64.proofs.Unbounded.{lt-or-ge, carried}
 use Rattle.binary64.proofs.Bounded.{units-le}
 use Rattle.binary64.specs.Rounding.{apart, units, NearestEven}
-use Rattle.binary64.specs.Binary64.{infinity, isNaN, Value, notANumber, infinite, finite, value, withSign}
+use Rattle.binary64.specs.Binary64.{infinity, isNaN, notANumber, infinite, finite, value, withSign}
 
 -- ---- nothing is nearer than the value itself, and nothing else as near
 module _ (w top n den p : ℕ) (D : 0 < den) (H : p ≤ top) (E : n ≡ units w p * den) where

@@ -16,7 +16,7 @@ use Rattle.inst_decode.specs.Decode as decode
 use Rattle.inst_encode.specs.Encode.{bytesOf}
 use Rattle.machine.specs.declared.Label.{Label}
 use Rattle.machine.specs.declared.Ending.{Ending}
-use Rattle.machine.specs.declared.Ending.the-variants.{Halted, Limit, Number}
+use Rattle.machine.specs.declared.Ending.the-variants.{Limit, Number}
 use Rattle.machine.specs.Load.{startName, linked, scanOne, andThen, scan, lastOf, anyNative, lastIsHalt, closed, Loaded, Load, rejects, accepts, checked, entered, finished, loads, load, instsAfter, labelsAfter, fresh, countOf}
 use Rattle.machine.specs.Lookup.{walk, lookupFrom, lookup}
 use Rattle.machine.specs.Change.{withStack, withCalls, moved, stopped}

@@ -4,7 +4,7 @@ use mathlib.Core.Path.{_≡_, refl}
 use mathlib.Core.List.{List, [], _∷_}
 use lib.ListN.{replicate}
 use Rattle.nan.specs.Cells as nan
-use Rattle.integer.specs.Integers.{iadd, imul}
+use Rattle.integer.specs.Integers.{imul}
 use Rattle.inst.specs.declared.Inst.{Inst}
 use Rattle.inst.specs.Forms.{formOf, hasNone, hasEight, hasOne, hasName}
 use Rattle.inst.specs.Records.{nameOk, nameIn, fits, wellFormed, same}
@@ -13,7 +13,7 @@ use Rattle.inst_decode.specs.Decode as decode
 use Rattle.machine.specs.declared.Label.{Label}
 use Rattle.machine.specs.declared.Ending.{Ending}
 use Rattle.machine.specs.declared.Ending.the-variants.{Halted}
-use Rattle.machine.specs.Load.{startName, linked, scanOne, andThen, scan, lastOf, anyNative, lastIsHalt, closed, Loaded, Load, rejects, accepts, checked, entered, finished, loads, load, instsAfter, labelsAfter, fresh, countOf}
+use Rattle.machine.specs.Load.{linked, scanOne, andThen, scan, lastOf, anyNative, lastIsHalt, closed, Load, rejects, accepts, checked, entered, finished, loads, load, instsAfter, labelsAfter, fresh}
 use Rattle.machine.specs.Lookup.{walk, lookupFrom, lookup}
 use Rattle.machine.specs.Change.{callHeight, withStack, moved, stopped}
 use Rattle.machine.specs.Step.{_must_else_then_, opOf, numberOf, push, ofCells, divides, integerStep, dump, exec, wellState, step}

@@ -5,7 +5,6 @@ use mathlib.Core.Bool.{Bool, true, _&&_, _||_}
 use mathlib.Core.List.{List}
 use lib.Dec.{eqb, leb}
 use lib.ListN.{length, getD}
-use Rattle.inst.specs.declared.Inst.{Inst}
 use Rattle.inst.specs.Records.{wellFormed}
 use Rattle.machine.specs.Lookup.{Program, leadsTo, lookup}
 use Rattle.tables.specs.Tables.{numberAt, inst, instsOf, instOf}

@@ -29,7 +29,7 @@ use Rattle.c_answers.specs.declared.Ran as host
 use Rattle.c_answers.proofs.Ran as Ha
 use Rattle.c_answers.proofs.Ran.Laws as Ha′
 use Rattle.hand_proofs.proofs.Local.{Kind, Fit, same-is}
-use Rattle.label_run.proofs.Runs.{registers}
+use Rattle.label_run.proofs.Runs.{regs}
 
 -- the arrays of a run, each with its width and its size: the machine's three, and the two of what a run learns
 abbrev pub Stack : Kind
@@ -57,8 +57,8 @@ MachineIs m = Is Mc.the-row m (machine-val m ∷ [])
 abbrev pub ending-val : Ending → Val
 ending-val e = EL.val En.the-type En′.the-laws e
 
-abbrev pub registers-val : Registers → Val
-registers-val c = LL.val Co.the-type Co′.the-laws c
+abbrev pub regs-val : Registers → Val
+regs-val c = LL.val Co.the-type Co′.the-laws c
 
 abbrev pub progress-val : Progress → Val
 progress-val o = LL.val Pg.the-type Pg′.the-laws o
@@ -100,10 +100,10 @@ machine-fits m is =
 
 -- of a progress's
 pub start-fits : (o : Progress) → ProgressIs o → o .start < 2 ^ 64
-start-fits o is = let (registers, (flags, (left, (dumped, (on, (start, _)))))) = LL.owed Pg.the-type Pg′.the-laws o _ is in start .1
+start-fits o is = let (regs, (flags, (left, (dumped, (on, (start, _)))))) = LL.owed Pg.the-type Pg′.the-laws o _ is in start .1
 
 pub len-fits : (o : Progress) → ProgressIs o → o .len < 2 ^ 64
-len-fits o is = let (registers, (flags, (left, (dumped, (on, (start, (len, _))))))) = LL.owed Pg.the-type Pg′.the-laws o _ is in len .1
+len-fits o is = let (regs, (flags, (left, (dumped, (on, (start, (len, _))))))) = LL.owed Pg.the-type Pg′.the-laws o _ is in len .1
 
 -- of an answer's
 pub record RanFits (r : Ran) : Type 0 where
@@ -118,10 +118,10 @@ ran-fits r is =
     record { machine = machine; ending = ending; steps = steps .1; dumped = dumped .1 }
 
 -- what is made: a machine's registers (ip, height, call_height), and the answer to a host (ending, steps, dumped)
-pub registers-is : (m : Machine) → MachineIs m → Is Co.the-row (registers m) (registers-val (registers m) ∷ [])
-registers-is m is =
+pub regs-is : (m : Machine) → MachineIs m → Is Co.the-row (regs m) (regs-val (regs m) ∷ [])
+regs-is m is =
     let f = machine-fits m is in
-    LL.owes Co.the-type Co′.the-laws (registers m) ((refl, f .ip), ((refl, f .height), ((refl, f .call-height), tt)))
+    LL.owes Co.the-type Co′.the-laws (regs m) ((refl, f .ip), ((refl, f .height), ((refl, f .call-height), tt)))
 
 pub host-is : (x : host.Ran) → x .ending < 2 ^ 64 → x .steps < 2 ^ 64 → x .dumped < 2 ^ 64 → Is Ha.the-row x (host-val x ∷ [])
 host-is x e s d = LL.owes Ha.the-type Ha′.the-laws x ((refl, e), ((refl, s), ((refl, d), tt)))

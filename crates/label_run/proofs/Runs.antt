@@ -29,13 +29,13 @@ use Rattle.c_answers.specs.Endings.{endingNumber}
 use Rattle.label_run.specs.Runs.{ranBy}
 
 -- the numbers of a machine, as `begin` takes them
-abbrev pub registers : Machine → Registers
-registers m = record { ip = m .ip; height = m .height; «call_height» = m .«call_height» }
+abbrev pub regs : Machine → Registers
+regs m = record { ip = m .ip; height = m .height; «call_height» = m .«call_height» }
 
 -- what `pack` returns
 abbrev pub packed : ℕ → Progress → List ℕ → List ℕ → List ℕ → Ran
 packed limit o stack calls memory =
-    record { machine = ofParts (o .registers) (o .flags) stack calls memory (eqb (o .ending) 0); ending = endingOf (o .ending) (o .number); steps = limit - o .left; dumped = o .dumped }
+    record { machine = ofParts (o .regs) (o .flags) stack calls memory (eqb (o .ending) 0); ending = endingOf (o .ending) (o .number); steps = limit - o .left; dumped = o .dumped }
 
 module _ (image insts : List ℕ) (labels : List Label) (count limit : ℕ) (m : Machine) (buffer : List ℕ) where
   abbrev pub program : Program
@@ -58,7 +58,7 @@ module _ (image insts : List ℕ) (labels : List Label) (count limit : ℕ) (m :
   pub falls : WellFounded Lower
   falls = InvImage·wf (λ (t : State). weight image (t .o)) (Nat·lt-wfRel .wf)
 
-  abbrev pub starts : length image < 2 ^ 64 → (r : Progress) → Begun insts count (registers m) (m .flags) (m .halted) limit r → State
+  abbrev pub starts : length image < 2 ^ 64 → (r : Progress) → Begun insts count (regs m) (m .flags) (m .halted) limit r → State
   starts fits r begun = record {
     o = r;
     dumps = buffer;

@@ -43,7 +43,7 @@ pub fn execute_program(
 ) -> Ran
     ensures { λ r. ⌜ ExecuteProgram (now (image .entry)) (now (insts .entry)) (now (labels .entry)) count m limit (now (dumps .entry)) r (now (dumps .exit)) ⌝ }
 {
-    let registers = Registers {
+    let regs = Registers {
         ip: m.ip,
         height: m.height,
         call_height: m.call_height,
@@ -53,7 +53,7 @@ pub fn execute_program(
     let mut memory = m.memory;
     let mut keys = [UNKNOWN; KNOWN_LIMIT];
     let mut targets = [0u16; KNOWN_LIMIT];
-    let mut progress = begin(insts, count, registers, m.flags, m.halted, limit);
+    let mut progress = begin(insts, count, regs, m.flags, m.halted, limit);
     while progress.on {
         let found = lookup(image, labels, count, progress.start, progress.len);
         progress = steps(

@@ -2,10 +2,9 @@
 use Prim.Native.Nat.{ℕ, _+_, _≤_, _<_}
 use mathlib.Core.Path.{_≡_}
 use mathlib.Core.Bool.{Bool, true, false, cond, _||_}
-use mathlib.Core.List.{List, [], _∷_}
+use mathlib.Core.List.{List}
 use lib.Dec.{eqb}
 use lib.ListN.{length, drop}
-use Rattle.inst.specs.declared.Inst.{Inst}
 use Rattle.inst_decode.specs.Decode.{Answer, refused, reads}
 use Rattle.machine.specs.Limits.{instLimit}
 use Rattle.machine.specs.Load.{halt, startName, Scan, Scanned, stops, goes, Entry, noEntry, entry, lastOf, anyNative, lastIsHalt}

@@ -65,9 +65,9 @@ pub three : (h ch ip : ℕ) (rest : List ℕ) → eightOf h ++ (eightOf ch ++ (e
 unfolding bytesOf eightOf
 three h ch ip rest = refl
 
-pub registers-stored : (m m1 m2 m3 : List ℕ) (h ch ip f b : ℕ) → m1 ≡ sets m heightAt (eightOf h) → m2 ≡ sets m1 callHeightAt (eightOf ch) → m3 ≡ sets m2 ipAt (eightOf ip)
+pub regs-stored : (m m1 m2 m3 : List ℕ) (h ch ip f b : ℕ) → m1 ≡ sets m heightAt (eightOf h) → m2 ≡ sets m1 callHeightAt (eightOf ch) → m3 ≡ sets m2 ipAt (eightOf ip)
     → set (set m3 flagsAt f) haltedAt b ≡ sets m heightAt (bytesOf (h ∷ ch ∷ ip ∷ []) ++ (f ∷ b ∷ []))
-registers-stored m m1 m2 m3 h ch ip f b p q r =
+regs-stored m m1 m2 m3 h ch ip f b p q r =
     let rest = f ∷ b ∷ [] in
     ap (λ (x : List ℕ). sets x flagsAt rest) r
     ∙ stored-more m2 rest ip ipAt flagsAt refl

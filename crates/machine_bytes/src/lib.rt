@@ -137,20 +137,20 @@ fn bit(b: bool) -> u8
 }
 
 // The numbers, flags and halted, into the bytes from the height on.
-fn write_registers(registers: Registers, flags: u8, halted: bool, machine: &mut [u8])
+fn write_registers(regs: Registers, flags: u8, halted: bool, machine: &mut [u8])
     requires { ⌜ length (now machine) ≡ machineSize ⌝ }
-    ensures { λ _. ⌜ now (machine .exit) ≡ sets (now (machine .entry)) heightAt (bytesOf (registers .height ∷ callHeight registers ∷ registers .ip ∷ []) ++ (flags ∷ cond halted 1 0 ∷ [])) ⌝ }
+    ensures { λ _. ⌜ now (machine .exit) ≡ sets (now (machine .entry)) heightAt (bytesOf (regs .height ∷ callHeight regs ∷ regs .ip ∷ []) ++ (flags ∷ cond halted 1 0 ∷ [])) ⌝ }
 {
-    put_word(machine, HEIGHT, registers.height as u64);
-    put_word(machine, CALL_HEIGHT, registers.call_height as u64);
-    put_word(machine, IP, registers.ip as u64);
+    put_word(machine, HEIGHT, regs.height as u64);
+    put_word(machine, CALL_HEIGHT, regs.call_height as u64);
+    put_word(machine, IP, regs.ip as u64);
     machine[FLAGS] = flags;
     machine[HALTED] = bit(halted);
 }
 
 // The machine of these parts, in every byte.
 pub fn write_parts(
-    registers: Registers,
+    regs: Registers,
     flags: u8,
     halted: bool,
     stack: &[u64; STACK_LIMIT],
@@ -159,17 +159,17 @@ pub fn write_parts(
     machine: &mut [u8],
 )
     requires { ⌜ length (now machine) ≡ machineSize ⌝ }
-    ensures { λ _. ⌜ now (machine .exit) ≡ machineBytes (ofParts registers flags (now (stack .entry)) (now (calls .entry)) (now (memory .entry)) halted) ⌝ }
+    ensures { λ _. ⌜ now (machine .exit) ≡ machineBytes (ofParts regs flags (now (stack .entry)) (now (calls .entry)) (now (memory .entry)) halted) ⌝ }
 {
     write_arrays(stack, calls, memory, machine);
-    write_registers(registers, flags, halted, machine);
+    write_registers(regs, flags, halted, machine);
 }
 
 pub fn write_machine(m: Machine, machine: &mut [u8])
     requires { ⌜ length (now machine) ≡ machineSize ⌝ }
     ensures { λ _. ⌜ now (machine .exit) ≡ machineBytes m ⌝ }
 {
-    let registers = Registers {
+    let regs = Registers {
         ip: m.ip,
         height: m.height,
         call_height: m.call_height,
@@ -177,15 +177,7 @@ pub fn write_machine(m: Machine, machine: &mut [u8])
     let stack = m.stack;
     let calls = m.calls;
     let memory = m.memory;
-    write_parts(
-        registers,
-        m.flags,
-        m.halted,
-        &stack,
-        &calls,
-        &memory,
-        machine,
-    );
+    write_parts(regs, m.flags, m.halted, &stack, &calls, &memory, machine);
 }
 
 // No code: its contract states that a machine crosses and comes back.

@@ -61,7 +61,7 @@ pub run-call : (image insts labels : List ℕ) (count : ℕ) (machine : List ℕ
     isMachine machine ≡ true →
     m ≡ machineOf machine →
     ExecuteParts image insts labels count m limit dumps r s ca me dumps′ →
-    machine′ ≡ machineBytes (ofParts (r .registers) (r .flags) s ca me (eqb (r .ending) 0)) →
+    machine′ ≡ machineBytes (ofParts (r .regs) (r .flags) s ca me (eqb (r .ending) 0)) →
     a ≡ ranWith limit r →
     runCall image insts labels count machine limit dumps ≡ record { ending = a .ending; steps = a .steps; dumped = a .dumped; machine = machine′; dumps = dumps′ }
 unfolding runCall ranBy

@@ -122,15 +122,7 @@ pub extern "C" fn mm_run(
         &mut b,
         dumps,
     );
-    write_parts(
-        left.registers,
-        left.flags,
-        left.ending == 0,
-        &s,
-        &c,
-        &b,
-        machine,
-    );
+    write_parts(left.regs, left.flags, left.ending == 0, &s, &c, &b, machine);
     ran(left, limit)
 }
 

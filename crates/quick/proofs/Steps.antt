@@ -4,14 +4,14 @@ use mathlib.Core.Path.{_≡_, refl, _∙_, ap, sym}
 use mathlib.Core.Bool.{true, false}
 use mathlib.Core.List.{List, []}
 use native.Mathlib.Omega.{arith}
-use lib.ListN.{length, getD}
+use lib.ListN.{getD}
 use borrow.Author.Tests.{le-leb, lt-ltb, eq-eqb, ne-eqb}
 use Rattle.inst.specs.declared.Inst.{Inst}
 use Rattle.machine.specs.declared.Machine.{Machine}
 use Rattle.machine.specs.Limits.{stackLimit, callLimit}
 use Rattle.machine.specs.Change as change
 use Rattle.machine.specs.Lookup.{Program, leadsTo, lookup}
-use Rattle.machine.specs.Step.{Stepped, succeeds, ill, exec, opOf, step, wellState, instAt}
+use Rattle.machine.specs.Step.{Stepped, succeeds, ill, exec, opOf, step, wellState}
 use Rattle.machine.specs.Run.{Course, course, turn, before, taken, isIll, isDump, after}
 use Rattle.quick.proofs.Turns.{course-turn, before-on}
 use Rattle.tables.specs.Tables.{numberAt, inst, instOf}
@@ -60,7 +60,7 @@ plus-more k k' r h =
 module _ (xs keys targets : List ℕ) where
   -- no step was made yet
   pub begun : (c : Registers) (f steps : ℕ) (s ca me : List ℕ) → Inside c →
-      Leads xs keys targets (ofParts c f s ca me false) steps (record { registers = c; left = steps; flags = f }) s ca me
+      Leads xs keys targets (ofParts c f s ca me false) steps (record { regs = c; left = steps; flags = f }) s ca me
   begun c f steps s ca me h =
       record {
         leads = λ p o k room. let e : steps - steps ≡ 0 = omega arith in ap (λ (n : ℕ). plus n (course p steps room (ofParts c f s ca me false))) e ∙ plus-none _;
@@ -69,10 +69,10 @@ module _ (xs keys targets : List ℕ) where
       }
 
   module _ (m₀ : Machine) (steps : ℕ) (c : Registers) (f left : ℕ) (s ca me : List ℕ)
-      (inv : Leads xs keys targets m₀ steps (record { registers = c; left = left; flags = f }) s ca me) where
+      (inv : Leads xs keys targets m₀ steps (record { regs = c; left = left; flags = f }) s ca me) where
     -- no more steps are made
     pub stopped-at : (s' ca' me' : List ℕ) → (s' ≡ s) × (ca' ≡ ca) × (me' ≡ me) →
-        Leads xs keys targets m₀ steps (record { registers = c; left = left; flags = f }) s' ca' me'
+        Leads xs keys targets m₀ steps (record { regs = c; left = left; flags = f }) s' ca' me'
     stopped-at s' ca' me' e = rw (e .0, e .1, e .2) inv
 
     -- one more was made
@@ -95,7 +95,7 @@ module _ (xs keys targets : List ℕ) where
           let d = simp (ne-eqb _ _ is-known) at (q (lookup p (instOf xs (c .ip))) (numberAt xs (c .ip * 4 + 2)) (numberAt xs (c .ip * 4 + 3)) (a .target-is) .holds .0) in
           known-step p xs o (ofParts c f s ca me false) (getD keys (c .ip) 0) (getD targets (c .ip) 0) a (inv .small .0) (inv .small .1) ∙ sym d
 
-      pub success-on : Leads xs keys targets m₀ steps (record { registers = n; left = left - 1; flags = g }) s' ca' me'
+      pub success-on : Leads xs keys targets m₀ steps (record { regs = n; left = left - 1; flags = g }) s' ca' me'
       success-on =
           record {
             leads = λ p o k room.

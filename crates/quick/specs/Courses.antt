@@ -17,6 +17,6 @@ plus k r = record { machine = r .machine; ending = r .ending; steps = k + r .ste
 -- from m with so many steps to go, steps that only succeed lead to the machine of r and these arrays, whatever the labels of the program are
 pub record Leads (xs keys targets : List ℕ) (m : Machine) (steps : ℕ) (r : Reached) (s ca me : List ℕ) : Type 0 where
   pub leads : (p : Program) → Over p xs → Known p xs keys targets → (room : ℕ) →
-      plus (steps - r .left) (course p (r .left) room (ofParts (r .registers) (r .flags) s ca me false)) ≡ course p steps room m
-  pub small : Inside (r .registers)
+      plus (steps - r .left) (course p (r .left) room (ofParts (r .regs) (r .flags) s ca me false)) ≡ course p steps room m
+  pub small : Inside (r .regs)
   pub fewer : r .left ≤ steps

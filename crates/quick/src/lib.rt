@@ -31,7 +31,7 @@ use tables::number_at;
 
 // The machine's numbers and flags after the step; or no step was made.
 pub enum Quick {
-    Success { registers: Registers, flags: u8 },
+    Success(Registers, u8),
     Stop,
 }
 
@@ -40,34 +40,28 @@ fn success(answer: Executed, flags: u8) -> Quick
     ensures { λ r. ⌜ r ≡ successOf answer flags ⌝ }
 {
     match answer {
-        Executed::Next(registers) => Quick::Success {
-            registers: registers,
-            flags: flags,
-        },
-        Executed::Compared { registers, flags } => Quick::Success {
-            registers: registers,
-            flags: flags,
-        },
-        Executed::Dump { registers, cell } => Quick::Stop,
+        Executed::Next(regs) => Quick::Success(regs, flags),
+        Executed::Compared(regs, flags) => Quick::Success(regs, flags),
+        Executed::Dump(regs, cell) => Quick::Stop,
         Executed::Halt(last) => Quick::Stop,
-        Executed::Trap { registers, number } => Quick::Stop,
+        Executed::Trap(regs, number) => Quick::Stop,
         Executed::Ill => Quick::Stop,
     }
 }
 
 // NOP, LABEL, EXTERN, NATIVE, and a jump that isn't taken.
-fn next_known(registers: Registers, flags: u8) -> Quick
-    requires { ⌜ Inside registers × (registers .ip < knownLimit) ⌝ }
-    ensures { λ r. ⌜ QuickOnRegisters (λ m. definition.succeeds (onward m)) registers flags r ⌝ }
+fn next_known(regs: Registers, flags: u8) -> Quick
+    requires { ⌜ Inside regs × (regs .ip < knownLimit) ⌝ }
+    ensures { λ r. ⌜ QuickOnRegisters (λ m. definition.succeeds (onward m)) regs flags r ⌝ }
 {
-    Quick::Success {
-        registers: Registers {
-            ip: registers.ip + 1,
-            height: registers.height,
-            call_height: registers.call_height,
+    Quick::Success(
+        Registers {
+            ip: regs.ip + 1,
+            height: regs.height,
+            call_height: regs.call_height,
         },
-        flags: flags,
-    }
+        flags,
+    )
 }
 
 // A target as an index.
@@ -86,55 +80,55 @@ fn op_of(key: u8) -> u64
 
 // A jump whose target is known. The target has an array of its own, read only where the jump is taken: so the jump stays
 // a branch, which the processor predicts, and doesn't become a choice between two numbers that waits for the flags.
-fn jump_known(registers: Registers, flags: u8, targets: &[u16; KNOWN_LIMIT]) -> Quick
-    requires { ⌜ Inside registers × (registers .ip < knownLimit) ⌝ }
-    ensures { λ r. ⌜ QuickOnRegisters (definition.jump (leadsTo (getD (now (targets .entry)) (registers .ip) 0))) registers flags r ⌝ }
+fn jump_known(regs: Registers, flags: u8, targets: &[u16; KNOWN_LIMIT]) -> Quick
+    requires { ⌜ Inside regs × (regs .ip < knownLimit) ⌝ }
+    ensures { λ r. ⌜ QuickOnRegisters (definition.jump (leadsTo (getD (now (targets .entry)) (regs .ip) 0))) regs flags r ⌝ }
 {
-    let ip = registers.ip;
-    Quick::Success {
-        registers: Registers {
+    let ip = regs.ip;
+    Quick::Success(
+        Registers {
             ip: wide(targets[ip]),
-            height: registers.height,
-            call_height: registers.call_height,
+            height: regs.height,
+            call_height: regs.call_height,
         },
-        flags: flags,
-    }
+        flags,
+    )
 }
 
 // A conditional jump, whose first byte `op` is.
-fn jump_if_known(registers: Registers, flags: u8, op: u64, targets: &[u16; KNOWN_LIMIT]) -> Quick
-    requires { ⌜ Inside registers × (registers .ip < knownLimit) × (12 ≤ op) × (op ≤ 19) ⌝ }
-    ensures { λ r. ⌜ QuickOnRegisters (definition.jumpIf (isSet flags op) (leadsTo (getD (now (targets .entry)) (registers .ip) 0))) registers flags r ⌝ }
+fn jump_if_known(regs: Registers, flags: u8, op: u64, targets: &[u16; KNOWN_LIMIT]) -> Quick
+    requires { ⌜ Inside regs × (regs .ip < knownLimit) × (12 ≤ op) × (op ≤ 19) ⌝ }
+    ensures { λ r. ⌜ QuickOnRegisters (definition.jumpIf (isSet flags op) (leadsTo (getD (now (targets .entry)) (regs .ip) 0))) regs flags r ⌝ }
 {
     if flag::is_set(flags, op) {
-        jump_known(registers, flags, targets)
+        jump_known(regs, flags, targets)
     } else {
-        next_known(registers, flags)
+        next_known(regs, flags)
     }
 }
 
 // A CALL whose target is known.
 fn call_known(
-    registers: Registers,
+    regs: Registers,
     flags: u8,
     calls: &mut [u64; CALL_LIMIT],
     targets: &[u16; KNOWN_LIMIT],
 ) -> Quick
-    requires { ⌜ Inside registers × (registers .ip < knownLimit) ⌝ }
-    ensures { λ r. ⌜ QuickOnCalls (definition.call (leadsTo (getD (now (targets .entry)) (registers .ip) 0))) registers flags (now (calls .entry)) r (now (calls .exit)) ⌝ }
+    requires { ⌜ Inside regs × (regs .ip < knownLimit) ⌝ }
+    ensures { λ r. ⌜ QuickOnCalls (definition.call (leadsTo (getD (now (targets .entry)) (regs .ip) 0))) regs flags (now (calls .entry)) r (now (calls .exit)) ⌝ }
 {
-    let call_height = registers.call_height;
+    let call_height = regs.call_height;
     if call_height < CALL_LIMIT {
-        let ip = registers.ip;
+        let ip = regs.ip;
         calls[call_height] = (ip + 1) as u64;
-        Quick::Success {
-            registers: Registers {
+        Quick::Success(
+            Registers {
                 ip: wide(targets[ip]),
-                height: registers.height,
+                height: regs.height,
                 call_height: call_height + 1,
             },
-            flags: flags,
-        }
+            flags,
+        )
     } else {
         Quick::Stop
     }
@@ -148,68 +142,65 @@ fn execute_known(
     insts: &[u8],
     targets: &[u16; KNOWN_LIMIT],
     flags: u8,
-    registers: Registers,
+    regs: Registers,
     stack: &mut [u64; STACK_LIMIT],
     calls: &mut [u64; CALL_LIMIT],
     memory: &mut [u8; MEMORY_SIZE],
 ) -> Quick
-    requires { ⌜ Inside registers × (registers .ip < knownLimit) × ((key ≡ unknown → ⊥) → registers .ip * 32 + 31 < length (now insts)) ⌝ }
-    ensures { λ r. ⌜ ExecutesKnown key (numberAt (now (insts .entry)) (registers .ip * 4 + 1)) (getD (now (targets .entry)) (registers .ip) 0) registers flags (now (stack .entry)) (now (calls .entry)) (now (memory .entry)) r (now (stack .exit)) (now (calls .exit)) (now (memory .exit)) ⌝ }
+    requires { ⌜ Inside regs × (regs .ip < knownLimit) × ((key ≡ unknown → ⊥) → regs .ip * 32 + 31 < length (now insts)) ⌝ }
+    ensures { λ r. ⌜ ExecutesKnown key (numberAt (now (insts .entry)) (regs .ip * 4 + 1)) (getD (now (targets .entry)) (regs .ip) 0) regs flags (now (stack .entry)) (now (calls .entry)) (now (memory .entry)) r (now (stack .exit)) (now (calls .exit)) (now (memory .exit)) ⌝ }
 {
-    let ip = registers.ip;
+    let ip = regs.ip;
     match key {
-        ops::NOP => next_known(registers, flags),
-        ops::POP => success(cells::pop(registers), flags),
-        ops::INC => success(cells::inc(registers, stack), flags),
-        ops::DEC => success(cells::dec(registers, stack), flags),
-        ops::IADD => success(integer_step(registers, stack, ops::IADD), flags),
-        ops::ISUB => success(integer_step(registers, stack, ops::ISUB), flags),
-        ops::IMUL => success(integer_step(registers, stack, ops::IMUL), flags),
-        ops::IDIV => success(integer_step(registers, stack, ops::IDIV), flags),
-        ops::CMP => success(compare(registers, stack), flags),
+        ops::NOP => next_known(regs, flags),
+        ops::POP => success(cells::pop(regs), flags),
+        ops::INC => success(cells::inc(regs, stack), flags),
+        ops::DEC => success(cells::dec(regs, stack), flags),
+        ops::IADD => success(integer_step(regs, stack, ops::IADD), flags),
+        ops::ISUB => success(integer_step(regs, stack, ops::ISUB), flags),
+        ops::IMUL => success(integer_step(regs, stack, ops::IMUL), flags),
+        ops::IDIV => success(integer_step(regs, stack, ops::IDIV), flags),
+        ops::CMP => success(compare(regs, stack), flags),
         ops::SWAP => success(
-            cells::swap(registers, stack, number_at(insts, ip * 4 + 1)),
+            cells::swap(regs, stack, number_at(insts, ip * 4 + 1)),
             flags,
         ),
-        ops::DUP => success(
-            cells::dup(registers, stack, number_at(insts, ip * 4 + 1)),
-            flags,
-        ),
-        ops::JE => jump_if_known(registers, flags, ops::JE, targets),
-        ops::JL => jump_if_known(registers, flags, ops::JL, targets),
-        ops::JLE => jump_if_known(registers, flags, ops::JLE, targets),
-        ops::JG => jump_if_known(registers, flags, ops::JG, targets),
-        ops::JGE => jump_if_known(registers, flags, ops::JGE, targets),
-        ops::JNE => jump_if_known(registers, flags, ops::JNE, targets),
-        ops::JZ => jump_if_known(registers, flags, ops::JZ, targets),
-        ops::JNZ => jump_if_known(registers, flags, ops::JNZ, targets),
-        ops::JMP => jump_known(registers, flags, targets),
-        ops::LABEL => next_known(registers, flags),
-        ops::BOT => success(cells::bot(registers, stack), flags),
-        ops::FADD => success(float_step(registers, stack, ops::FADD), flags),
-        ops::FSUB => success(float_step(registers, stack, ops::FSUB), flags),
-        ops::FMUL => success(float_step(registers, stack, ops::FMUL), flags),
-        ops::FDIV => success(float_step(registers, stack, ops::FDIV), flags),
-        ops::CALL => call_known(registers, flags, calls, targets),
-        ops::RET => success(ret(registers, calls), flags),
-        ops::EXTERN => next_known(registers, flags),
-        ops::F2I => success(convert(registers, stack, ops::F2I), flags),
-        ops::F2U => success(convert(registers, stack, ops::F2U), flags),
-        ops::I2F => success(convert(registers, stack, ops::I2F), flags),
-        ops::I2U => success(convert(registers, stack, ops::I2U), flags),
-        ops::U2I => success(convert(registers, stack, ops::U2I), flags),
-        ops::U2F => success(convert(registers, stack, ops::U2F), flags),
-        ops::NATIVE => next_known(registers, flags),
-        ops::READ8 => success(step_memory::read(registers, stack, memory), flags),
-        ops::WRITE8 => success(step_memory::write(registers, stack, memory), flags),
-        ops::READ16 => success(step_memory::read(registers, stack, memory), flags),
-        ops::WRITE16 => success(step_memory::write(registers, stack, memory), flags),
-        ops::READ32 => success(step_memory::read(registers, stack, memory), flags),
-        ops::WRITE32 => success(step_memory::write(registers, stack, memory), flags),
-        ops::READ64 => success(step_memory::read(registers, stack, memory), flags),
-        ops::WRITE64 => success(step_memory::write(registers, stack, memory), flags),
+        ops::DUP => success(cells::dup(regs, stack, number_at(insts, ip * 4 + 1)), flags),
+        ops::JE => jump_if_known(regs, flags, ops::JE, targets),
+        ops::JL => jump_if_known(regs, flags, ops::JL, targets),
+        ops::JLE => jump_if_known(regs, flags, ops::JLE, targets),
+        ops::JG => jump_if_known(regs, flags, ops::JG, targets),
+        ops::JGE => jump_if_known(regs, flags, ops::JGE, targets),
+        ops::JNE => jump_if_known(regs, flags, ops::JNE, targets),
+        ops::JZ => jump_if_known(regs, flags, ops::JZ, targets),
+        ops::JNZ => jump_if_known(regs, flags, ops::JNZ, targets),
+        ops::JMP => jump_known(regs, flags, targets),
+        ops::LABEL => next_known(regs, flags),
+        ops::BOT => success(cells::bot(regs, stack), flags),
+        ops::FADD => success(float_step(regs, stack, ops::FADD), flags),
+        ops::FSUB => success(float_step(regs, stack, ops::FSUB), flags),
+        ops::FMUL => success(float_step(regs, stack, ops::FMUL), flags),
+        ops::FDIV => success(float_step(regs, stack, ops::FDIV), flags),
+        ops::CALL => call_known(regs, flags, calls, targets),
+        ops::RET => success(ret(regs, calls), flags),
+        ops::EXTERN => next_known(regs, flags),
+        ops::F2I => success(convert(regs, stack, ops::F2I), flags),
+        ops::F2U => success(convert(regs, stack, ops::F2U), flags),
+        ops::I2F => success(convert(regs, stack, ops::I2F), flags),
+        ops::I2U => success(convert(regs, stack, ops::I2U), flags),
+        ops::U2I => success(convert(regs, stack, ops::U2I), flags),
+        ops::U2F => success(convert(regs, stack, ops::U2F), flags),
+        ops::NATIVE => next_known(regs, flags),
+        ops::READ8 => success(step_memory::read(regs, stack, memory), flags),
+        ops::WRITE8 => success(step_memory::write(regs, stack, memory), flags),
+        ops::READ16 => success(step_memory::read(regs, stack, memory), flags),
+        ops::WRITE16 => success(step_memory::write(regs, stack, memory), flags),
+        ops::READ32 => success(step_memory::read(regs, stack, memory), flags),
+        ops::WRITE32 => success(step_memory::write(regs, stack, memory), flags),
+        ops::READ64 => success(step_memory::read(regs, stack, memory), flags),
+        ops::WRITE64 => success(step_memory::write(regs, stack, memory), flags),
         ops::PUSH => success(
-            cells::push(registers, stack, number_at(insts, ip * 4 + 1)),
+            cells::push(regs, stack, number_at(insts, ip * 4 + 1)),
             flags,
         ),
         _ => Quick::Stop,
@@ -218,16 +209,16 @@ fn execute_known(
 
 // Where the loop stopped, with so many steps left.
 pub struct Reached {
-    pub registers: Registers,
+    pub regs: Registers,
     pub left: u64,
     pub flags: u8,
 }
 
-fn stopped(registers: Registers, left: u64, flags: u8) -> Reached
-    ensures { λ r. ⌜ r ≡ record { registers = registers; left = left; flags = flags } ⌝ }
+fn stopped(regs: Registers, left: u64, flags: u8) -> Reached
+    ensures { λ r. ⌜ r ≡ record { regs = regs; left = left; flags = flags } ⌝ }
 {
     Reached {
-        registers: registers,
+        regs: regs,
         left: left,
         flags: flags,
     }
@@ -250,30 +241,27 @@ pub fn run_known(
     requires { ⌜ Inside start × Listed (now insts) (now keys) (now targets) ⌝ }
     ensures { λ r. ⌜ Leads (now (insts .entry)) (now (keys .entry)) (now (targets .entry)) (ofParts start f (now (stack .entry)) (now (calls .entry)) (now (memory .entry)) false) steps r (now (stack .exit)) (now (calls .exit)) (now (memory .exit)) ⌝ }
 {
-    let mut registers = start;
+    let mut regs = start;
     let mut flags = f;
     let mut left = steps;
     while left > 0 {
         let after = left - 1;
-        let ip = registers.ip;
+        let ip = regs.ip;
         if KNOWN_LIMIT <= ip {
-            return stopped(registers, left, flags);
+            return stopped(regs, left, flags);
         }
         let key = op_of(keys[ip]);
-        let answer = execute_known(key, insts, targets, flags, registers, stack, calls, memory);
+        let answer = execute_known(key, insts, targets, flags, regs, stack, calls, memory);
         match answer {
-            Quick::Success {
-                registers: next,
-                flags: g,
-            } => {
-                registers = next;
+            Quick::Success(next, g) => {
+                regs = next;
                 flags = g;
                 left = after;
             }
             Quick::Stop => {
-                return stopped(registers, left, flags);
+                return stopped(regs, left, flags);
             }
         }
     }
-    stopped(registers, left, flags)
+    stopped(regs, left, flags)
 }

@@ -105,7 +105,7 @@ begins-on image xs labels count b limit c f h s ca me fits i small inside =
 
 -- what a run reports
 pub reports : (p : Program) (m : Machine) (limit : ℕ) (b : List ℕ) (o : Progress) (b' s ca me : List ℕ) → Reaches (course p limit (length b / 8) m) limit b o b' s ca me →
-    record { machine = ofParts (o .registers) (o .flags) s ca me (eqb (o .ending) 0); ending = endingOf (o .ending) (o .number); steps = limit - o .left; dumped = o .dumped; buffer = b' } ≡ runBytes p limit b m
+    record { machine = ofParts (o .regs) (o .flags) s ca me (eqb (o .ending) 0); ending = endingOf (o .ending) (o .number); steps = limit - o .left; dumped = o .dumped; buffer = b' } ≡ runBytes p limit b m
 unfolding runBytes
 reports p m limit b o b' s ca me r =
     let long' = length-numbers-in b' in
@@ -118,7 +118,7 @@ pub answers : (p : Program) (m : Machine) (limit : ℕ) (b : List ℕ) (o : Prog
 answers p m limit b o b' s ca me r =
     let l : o .left ≡ limit - (limit - o .left) = omega (arith, r .fewer) in
     r .shape
-    ∙ ap (λ (n : ℕ). over (o .registers) (o .flags) n (o .dumped) (endingOf (o .ending) (o .number))) l
+    ∙ ap (λ (n : ℕ). over (o .regs) (o .flags) n (o .dumped) (endingOf (o .ending) (o .number))) l
     ∙ ap (progressOf limit) (reports p m limit b o b' s ca me r)
 
 -- no more steps are left than the limit has

@@ -112,7 +112,7 @@ module _ {image xs : List ℕ} {count : ℕ} where
       pub loop-on : (t : Tried) {on : Registers} {g n' : ℕ} {r : Reached} {s2 ca2 me2 : List ℕ} →
           Tries image xs count c f found (arrays keys targets s ca me) t (arrays keys' targets' s' ca' me') → FollowsTry t c f left n b b' (Go on g n') →
           quick.Leads xs keys' targets' (ofParts on g s' ca' me' false) (left - 1) r s2 ca2 me2 →
-          Loops image xs count c₀ f₀ left₀ n₀ asked b₀ keys₀ targets₀ s₀ ca₀ me₀ (r .registers) (r .flags) (r .left) n' NotAsked b' keys' targets' s2 ca2 me2
+          Loops image xs count c₀ f₀ left₀ n₀ asked b₀ keys₀ targets₀ s₀ ca₀ me₀ (r .regs) (r .flags) (r .left) n' NotAsked b' keys' targets' s2 ca2 me2
       loop-on (Asks start len) tries q k = absurd (not-go (q .followed .0))
       loop-on (Done a) tries q k =
           let fills = q .followed .followed .2 in
@@ -153,16 +153,16 @@ module _ {image xs : List ℕ} {count : ℕ} where
 
   -- the contract of `steps`
   pub advances : {o : Progress} {asked : LookedUp} {b keys targets s ca me : List ℕ} {r : Progress} {b' keys' targets' s' ca' me' : List ℕ} →
-      Stops image xs count (o .registers) (o .flags) (o .left) (o .dumped) asked b keys targets s ca me r b' keys' targets' s' ca' me' →
+      Stops image xs count (o .regs) (o .flags) (o .left) (o .dumped) asked b keys targets s ca me r b' keys' targets' s' ca' me' →
       Advances image xs count o asked b (arrays keys targets s ca me) r b' (arrays keys' targets' s' ca' me')
   advances {o} {asked} {b} {keys} {targets} {s} {ca} {me} {r} q labels buffer limit run on st fd =
       record { stands = q .stops labels buffer limit run (st .running on) told .0; falls = by (nameIn image (o .start) (o .len)) (r .on) refl refl }
     where
-      which : isAsked asked ≡ true → (x : Bool) → nameIn image (o .start) (o .len) ≡ x → foundOf asked ≡ lookup (lentProgram image (instsOf xs) labels count) (instOf xs (o .registers .ip))
+      which : isAsked asked ≡ true → (x : Bool) → nameIn image (o .start) (o .len) ≡ x → foundOf asked ≡ lookup (lentProgram image (instsOf xs) labels count) (instOf xs (o .regs .ip))
       which some true e = let n = st .named on e in rw (n .0, n .1) (fd .found e _ _)
       which some false e = never (sym (ap isAsked (fd .outside e)) ∙ some)
 
-      told : Told (lentProgram image (instsOf xs) labels count) xs (o .registers .ip) asked
+      told : Told (lentProgram image (instsOf xs) labels count) xs (o .regs .ip) asked
       told some = which some (nameIn image (o .start) (o .len)) refl
 
       by : (x y : Bool) → nameIn image (o .start) (o .len) ≡ x → r .on ≡ y → weight image r < weight image o

@@ -45,12 +45,12 @@ module _ {p : Program} {xs b₀ : List ℕ} {limit : ℕ} {run : Course} {c : Re
 
   -- known steps
   pub known-on : {r : Reached} {s' ca' me' : List ℕ} → quick.Leads xs keys targets (ofParts c f s ca me false) left r s' ca' me' →
-      Running p xs b₀ limit run (r .registers) (r .flags) (r .left) n b keys targets s' ca' me'
+      Running p xs b₀ limit run (r .regs) (r .flags) (r .left) n b keys targets s' ca' me'
   known-on {r} {s'} {ca'} {me'} q =
       let e : limit - left + (left - r .left) ≡ limit - r .left = omega (arith, inv .fewer, q .fewer) in
       record {
-        is = ap (λ (k : ℕ). more k (take n (numbersIn b)) (course p (r .left) (length b₀ / 8 - n) (ofParts (r .registers) (r .flags) s' ca' me' false))) (sym e)
-            ∙ sym (more-plus (limit - left) (left - r .left) (take n (numbersIn b)) (course p (r .left) (length b₀ / 8 - n) (ofParts (r .registers) (r .flags) s' ca' me' false)))
+        is = ap (λ (k : ℕ). more k (take n (numbersIn b)) (course p (r .left) (length b₀ / 8 - n) (ofParts (r .regs) (r .flags) s' ca' me' false))) (sym e)
+            ∙ sym (more-plus (limit - left) (left - r .left) (take n (numbersIn b)) (course p (r .left) (length b₀ / 8 - n) (ofParts (r .regs) (r .flags) s' ca' me' false)))
             ∙ ap (more (limit - left) (take n (numbersIn b))) (q .leads p (inv .over) (inv .known) (length b₀ / 8 - n))
             ∙ inv .is;
         small = q .small;

@@ -47,8 +47,8 @@ pub record Reaches (run : Course) (limit : ℕ) (b₀ : List ℕ) (o : Progress)
 
 -- The run goes on, and a name that it asks for is that of the instruction at the pointer; or it is over
 pub record Stands (p : Program) (xs b₀ : List ℕ) (limit : ℕ) (run : Course) (o : Progress) (b keys targets s ca me : List ℕ) : Type 0 where
-  pub running : o .on ≡ true → Running p xs b₀ limit run (o .registers) (o .flags) (o .left) (o .dumped) b keys targets s ca me
-  pub named : o .on ≡ true → nameIn (p .image) (o .start) (o .len) ≡ true → NamedAt xs (o .registers .ip) (o .start) (o .len)
+  pub running : o .on ≡ true → Running p xs b₀ limit run (o .regs) (o .flags) (o .left) (o .dumped) b keys targets s ca me
+  pub named : o .on ≡ true → nameIn (p .image) (o .start) (o .len) ≡ true → NamedAt xs (o .regs .ip) (o .start) (o .len)
   pub reached : o .on ≡ false → Reaches run limit b₀ o b s ca me
 
 -- Where a run that asks goes on with what was found it takes a step or ends. It asks for a name outside the image, so for nothing, before its first step
@@ -65,7 +65,7 @@ Begun xs count c f h limit r =
 
 -- what `steps` requires: it doesn't depend on the labels
 pub record Ready (xs : List ℕ) (count : ℕ) (o : Progress) (b keys targets : List ℕ) : Type 0 where
-  pub small : Inside (o .registers)
+  pub small : Inside (o .regs)
   pub inside : count * 32 ≤ length xs
   pub filled : o .dumped * 8 ≤ length b
   pub sized : Sized keys targets
@@ -106,7 +106,7 @@ progressOf limit r =
 -- that are left
 pub record ExecuteParts (image insts labels : List ℕ) (count : ℕ) (m : Machine) (limit : ℕ) (dumps : List ℕ) (r : Progress) (s ca me dumps′ : List ℕ) : Type 0 where
   pub answers : r ≡ progressOf limit (runBytes (program image insts labels count) limit dumps m)
-  pub gives : record { machine = ofParts (r .registers) (r .flags) s ca me (eqb (r .ending) 0); ending = endingOf (r .ending) (r .number); steps = limit - r .left; dumped = r .dumped; buffer = dumps′ } ≡ runBytes (program image insts labels count) limit dumps m
+  pub gives : record { machine = ofParts (r .regs) (r .flags) s ca me (eqb (r .ending) 0); ending = endingOf (r .ending) (r .number); steps = limit - r .left; dumped = r .dumped; buffer = dumps′ } ≡ runBytes (program image insts labels count) limit dumps m
 
 -- what a run's answer says
 abbrev pub answer : Ran → List ℕ → Result

@@ -43,20 +43,20 @@ besideOf (Number n) = n
 -- the course of a run that is over, after this many steps
 abbrev pub closed : ℕ → Progress → List ℕ → List ℕ → List ℕ → List ℕ → Course
 closed steps o b s ca me =
-    record { machine = ofParts (o .registers) (o .flags) s ca me (eqb (o .ending) 0); ending = endingOf (o .ending) (o .number); steps = steps; cells = take (o .dumped) (numbersIn b) }
+    record { machine = ofParts (o .regs) (o .flags) s ca me (eqb (o .ending) 0); ending = endingOf (o .ending) (o .number); steps = steps; cells = take (o .dumped) (numbersIn b) }
 
 -- a run that is over
 abbrev pub ending : Registers → ℕ → ℕ → ℕ → ℕ → ℕ → Progress
-ending c f left n kind number = record { registers = c; flags = f; left = left; dumped = n; on = false; start = 0; len = 0; ending = kind; number = number }
+ending c f left n kind number = record { regs = c; flags = f; left = left; dumped = n; on = false; start = 0; len = 0; ending = kind; number = number }
 
 -- the same with an ending as the definition has it, which leaves nothing else open
 abbrev pub over : Registers → ℕ → ℕ → ℕ → Ending → Progress
 over c f left n e =
-    record { registers = c; flags = f; left = left; dumped = n; on = false; start = 0; len = 0; ending = kindOf e; number = besideOf e }
+    record { regs = c; flags = f; left = left; dumped = n; on = false; start = 0; len = 0; ending = kindOf e; number = besideOf e }
 
 -- o is over
 abbrev pub IsOver : Progress → Type 0
-IsOver o = o ≡ over (o .registers) (o .flags) (o .left) (o .dumped) (endingOf (o .ending) (o .number))
+IsOver o = o ≡ over (o .regs) (o .flags) (o .left) (o .dumped) (endingOf (o .ending) (o .number))
 
 -- with so many steps and so much room left, the turn that m takes by the step st
 abbrev pub turned : Machine → (ℕ → Machine → Course) → ℕ → ℕ → Stepped → Course
@@ -95,7 +95,7 @@ pub record Follows (a : Executed) (c : Registers) (f left n : ℕ) (b b' : List 
 
 -- a run that asks for the lookup of a name
 abbrev pub asking : Registers → ℕ → ℕ → ℕ → ℕ → ℕ → Progress
-asking c f left n start len = record { registers = c; flags = f; left = left; dumped = n; on = true; start = start; len = len; ending = 0; number = 0 }
+asking c f left n start len = record { regs = c; flags = f; left = left; dumped = n; on = true; start = start; len = len; ending = 0; number = 0 }
 
 -- the same behind a step that was tried: where it asks, so does the run
 abbrev pub FollowsTried : Tried → Registers → ℕ → ℕ → ℕ → List ℕ → List ℕ → Turn → Type 0

@@ -20,23 +20,19 @@ use tables::put_number;
 
 // After a step: on with the next, its flags and the cells dumped so far; or the run stops here.
 pub enum Turn {
-    Go {
-        registers: Registers,
-        flags: u8,
-        dumped: usize,
-    },
+    Go(Registers, u8, usize),
     End(Progress),
 }
 
 // The same numbers, each by itself: copied as a whole out of one of several answers they go through memory, and the processor
 // waits for it (6 ns a dump).
-fn anew(registers: Registers) -> Registers
-    ensures { λ r. ⌜ r ≡ registers ⌝ }
+fn anew(regs: Registers) -> Registers
+    ensures { λ r. ⌜ r ≡ regs ⌝ }
 {
     Registers {
-        ip: registers.ip,
-        height: registers.height,
-        call_height: registers.call_height,
+        ip: regs.ip,
+        height: regs.height,
+        call_height: regs.call_height,
     }
 }
 
@@ -52,75 +48,54 @@ fn dump_cell(room: &mut [u8], cell: u64)
 // no step and change nothing, a trap counts and ends the run.
 fn follow_executed(
     answer: Executed,
-    registers: Registers,
+    regs: Registers,
     flags: u8,
     left: u64,
     n: usize,
     dumps: &mut [u8],
 ) -> Turn
     requires { ⌜ (0 < left) × (n * 8 ≤ length (now dumps)) × Small answer ⌝ }
-    ensures { λ r. ⌜ Follows answer registers flags left n (now (dumps .entry)) (now (dumps .exit)) r ⌝ }
+    ensures { λ r. ⌜ Follows answer regs flags left n (now (dumps .entry)) (now (dumps .exit)) r ⌝ }
 {
     let after = left - 1;
     match answer {
-        Executed::Next(next) => Turn::Go {
-            registers: anew(next),
-            flags: flags,
-            dumped: n,
-        },
-        Executed::Compared {
-            registers: next,
-            flags: g,
-        } => Turn::Go {
-            registers: anew(next),
-            flags: g,
-            dumped: n,
-        },
-        Executed::Dump {
-            registers: next,
-            cell,
-        } => {
+        Executed::Next(next) => Turn::Go(anew(next), flags, n),
+        Executed::Compared(next, g) => Turn::Go(anew(next), g, n),
+        Executed::Dump(next, cell) => {
             let at = n * CELL;
             if dumps.len() - at < CELL {
-                Turn::End(Progress::ends(registers, flags, left, n, NUMBER, BUFFER_FULL))
+                Turn::End(Progress::ends(regs, flags, left, n, NUMBER, BUFFER_FULL))
             } else {
                 dump_cell(&mut dumps[at..], cell);
-                Turn::Go {
-                    registers: anew(next),
-                    flags: flags,
-                    dumped: n + 1,
-                }
+                Turn::Go(anew(next), flags, n + 1)
             }
         }
         Executed::Halt(last) => Turn::End(Progress::ends(last, flags, after, n, HALTED, 0)),
-        Executed::Trap {
-            registers: last,
+        Executed::Trap(last, number) => Turn::End(Progress::ends(
+            last,
+            flags,
+            after,
+            n,
+            NUMBER,
             number,
-        } => Turn::End(Progress::ends(last, flags, after, n, NUMBER, number)),
-        Executed::Ill => Turn::End(Progress::ends(registers, flags, left, n, NUMBER, ILL_STATE)),
+        )),
+        Executed::Ill => Turn::End(Progress::ends(regs, flags, left, n, NUMBER, ILL_STATE)),
     }
 }
 
 pub fn follow(
     tried: Tried,
-    registers: Registers,
+    regs: Registers,
     flags: u8,
     left: u64,
     n: usize,
     dumps: &mut [u8],
 ) -> Turn
     requires { ⌜ (0 < left) × (n * 8 ≤ length (now dumps)) × SmallTried tried ⌝ }
-    ensures { λ r. ⌜ FollowsTry tried registers flags left n (now (dumps .entry)) (now (dumps .exit)) r ⌝ }
+    ensures { λ r. ⌜ FollowsTry tried regs flags left n (now (dumps .entry)) (now (dumps .exit)) r ⌝ }
 {
     match tried {
-        Tried::Done(answer) => follow_executed(answer, registers, flags, left, n, dumps),
-        Tried::Asks { start, len } => Turn::End(Progress::asks(
-            registers,
-            flags,
-            left,
-            n,
-            start,
-            len,
-        )),
+        Tried::Done(answer) => follow_executed(answer, regs, flags, left, n, dumps),
+        Tried::Asks { start, len } => Turn::End(Progress::asks(regs, flags, left, n, start, len)),
     }
 }

@@ -46,13 +46,13 @@ pub struct Ran {
 const NO_NAME: u64 = 0xFFFFFFFFFFFFFFFF;
 
 // 34 before the first step, but for the pointer and the record: no step changes it.
-fn is_ill(insts: &[u8], count: usize, registers: Registers) -> bool
-    ensures { λ r. ⌜ Fit (now (insts .entry)) count registers r ⌝ }
+fn is_ill(insts: &[u8], count: usize, regs: Registers) -> bool
+    ensures { λ r. ⌜ Fit (now (insts .entry)) count regs r ⌝ }
 {
-    if STACK_LIMIT < registers.height {
+    if STACK_LIMIT < regs.height {
         return true;
     }
-    if CALL_LIMIT < registers.call_height {
+    if CALL_LIMIT < regs.call_height {
         return true;
     }
     insts.len() / RECORD < count
@@ -62,23 +62,23 @@ fn is_ill(insts: &[u8], count: usize, registers: Registers) -> bool
 pub fn begin(
     insts: &[u8],
     count: usize,
-    registers: Registers,
+    regs: Registers,
     flags: u8,
     halted: bool,
     limit: u64,
 ) -> Progress
-    ensures { λ r. ⌜ Begun (now (insts .entry)) count registers flags halted limit r ⌝ }
+    ensures { λ r. ⌜ Begun (now (insts .entry)) count regs flags halted limit r ⌝ }
 {
     if halted {
-        return Progress::ends(registers, flags, limit, 0, HALTED, 0);
+        return Progress::ends(regs, flags, limit, 0, HALTED, 0);
     }
     if limit == 0 {
-        return Progress::ends(registers, flags, 0, 0, LIMIT, 0);
+        return Progress::ends(regs, flags, 0, 0, LIMIT, 0);
     }
-    if is_ill(insts, count, registers) {
-        return Progress::ends(registers, flags, limit, 0, NUMBER, ILL_STATE);
+    if is_ill(insts, count, regs) {
+        return Progress::ends(regs, flags, limit, 0, NUMBER, ILL_STATE);
     }
-    Progress::asks(registers, flags, limit, 0, NO_NAME, NO_NAME)
+    Progress::asks(regs, flags, limit, 0, NO_NAME, NO_NAME)
 }
 
 // The steps of a run that goes on: one step as the definition has it, then the known ones, and so on until the run is over
@@ -103,7 +103,7 @@ pub fn steps(
     ensures { λ r. ⌜ Advances (now (image .entry)) (now (insts .entry)) count from asked (now (dumps .entry)) (arrays (now (keys .entry)) (now (targets .entry)) (now (stack .entry)) (now (calls .entry)) (now (memory .entry))) r (now (dumps .exit)) (arrays (now (keys .exit)) (now (targets .exit)) (now (stack .exit)) (now (calls .exit)) (now (memory .exit))) ⌝ }
 {
     let forms = form_table();
-    let mut registers = from.registers;
+    let mut regs = from.regs;
     let mut flags = from.flags;
     let mut left = from.left;
     let mut n = from.dumped;
@@ -117,19 +117,15 @@ pub fn steps(
             keys,
             targets,
             flags,
-            registers,
+            regs,
             found,
             stack,
             calls,
             memory,
         );
-        let turn = follow(tried, registers, flags, left, n, dumps);
+        let turn = follow(tried, regs, flags, left, n, dumps);
         match turn {
-            Turn::Go {
-                registers: next,
-                flags: g,
-                dumped,
-            } => {
+            Turn::Go(next, g, dumped) => {
                 let reached = run_known(
                     insts,
                     keys,
@@ -141,8 +137,8 @@ pub fn steps(
                     memory,
                     left - 1,
                 );
-                let last = reached.registers;
-                registers = last;
+                let last = reached.regs;
+                regs = last;
                 flags = reached.flags;
                 left = reached.left;
                 n = dumped;
@@ -153,7 +149,7 @@ pub fn steps(
             }
         }
     }
-    Progress::ends(registers, flags, 0, n, LIMIT, 0)
+    Progress::ends(regs, flags, 0, n, LIMIT, 0)
 }
 
 pub fn ending(kind: u8, number: u8) -> Ending
@@ -175,17 +171,17 @@ pub fn pack(
     limit: u64,
 ) -> Ran
     requires { ⌜ progress .left ≤ limit ⌝ }
-    ensures { λ r. ⌜ r ≡ record { machine = ofParts (progress .registers) (progress .flags) stack calls memory (eqb (progress .ending) 0); ending = endingOf (progress .ending) (progress .number); steps = limit - progress .left; dumped = progress .dumped } ⌝ }
+    ensures { λ r. ⌜ r ≡ record { machine = ofParts (progress .regs) (progress .flags) stack calls memory (eqb (progress .ending) 0); ending = endingOf (progress .ending) (progress .number); steps = limit - progress .left; dumped = progress .dumped } ⌝ }
 {
-    let registers = progress.registers;
+    let regs = progress.regs;
     let machine = Machine {
         stack: stack,
-        height: registers.height,
+        height: regs.height,
         calls: calls,
-        call_height: registers.call_height,
+        call_height: regs.call_height,
         memory: memory,
         flags: progress.flags,
-        ip: registers.ip,
+        ip: regs.ip,
         halted: progress.ending == HALTED,
     };
     let last = ending(progress.ending, progress.number);
@@ -205,7 +201,7 @@ pub fn execute_parts(
     insts: &[u8],
     labels: &[u8],
     count: usize,
-    registers: Registers,
+    regs: Registers,
     flags: u8,
     halted: bool,
     limit: u64,
@@ -214,11 +210,11 @@ pub fn execute_parts(
     memory: &mut [u8; MEMORY_SIZE],
     dumps: &mut [u8],
 ) -> Progress
-    ensures { λ r. ⌜ ExecuteParts (now (image .entry)) (now (insts .entry)) (now (labels .entry)) count (ofParts registers flags (now (stack .entry)) (now (calls .entry)) (now (memory .entry)) halted) limit (now (dumps .entry)) r (now (stack .exit)) (now (calls .exit)) (now (memory .exit)) (now (dumps .exit)) ⌝ }
+    ensures { λ r. ⌜ ExecuteParts (now (image .entry)) (now (insts .entry)) (now (labels .entry)) count (ofParts regs flags (now (stack .entry)) (now (calls .entry)) (now (memory .entry)) halted) limit (now (dumps .entry)) r (now (stack .exit)) (now (calls .exit)) (now (memory .exit)) (now (dumps .exit)) ⌝ }
 {
     let mut keys = [UNKNOWN; KNOWN_LIMIT];
     let mut targets = [0u16; KNOWN_LIMIT];
-    let mut progress = begin(insts, count, registers, flags, halted, limit);
+    let mut progress = begin(insts, count, regs, flags, halted, limit);
     while progress.on {
         let found = lookup(image, labels, count, progress.start, progress.len);
         progress = steps(
@@ -250,7 +246,7 @@ pub fn execute_program(
 ) -> Ran
     ensures { λ r. ⌜ ExecuteProgram (now (image .entry)) (now (insts .entry)) (now (labels .entry)) count m limit (now (dumps .entry)) r (now (dumps .exit)) ⌝ }
 {
-    let registers = Registers {
+    let regs = Registers {
         ip: m.ip,
         height: m.height,
         call_height: m.call_height,
@@ -263,7 +259,7 @@ pub fn execute_program(
         insts,
         labels,
         count,
-        registers,
+        regs,
         m.flags,
         m.halted,
         limit,

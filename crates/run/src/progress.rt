@@ -7,7 +7,7 @@ use step_core::Registers;
 // goes on, and asks for the lookup of the name at `start`; or it is over. The ending is in numbers, so that a Progress is
 // numbers alone.
 pub struct Progress {
-    pub registers: Registers,
+    pub regs: Registers,
     pub flags: u8,
     pub left: u64,
     pub dumped: usize,
@@ -31,18 +31,11 @@ pub const BUFFER_FULL: u8 = 33;
 pub const ILL_STATE: u8 = 34;
 
 impl Progress {
-    pub fn asks(
-        registers: Registers,
-        flags: u8,
-        left: u64,
-        dumped: usize,
-        start: u64,
-        len: u64,
-    ) -> Self
-        ensures { λ r. ⌜ r ≡ turns.asking registers flags left dumped start len ⌝ }
+    pub fn asks(regs: Registers, flags: u8, left: u64, dumped: usize, start: u64, len: u64) -> Self
+        ensures { λ r. ⌜ r ≡ turns.asking regs flags left dumped start len ⌝ }
     {
         Progress {
-            registers: registers,
+            regs: regs,
             flags: flags,
             left: left,
             dumped: dumped,
@@ -55,17 +48,17 @@ impl Progress {
     }
 
     pub fn ends(
-        registers: Registers,
+        regs: Registers,
         flags: u8,
         left: u64,
         dumped: usize,
         ending: u8,
         number: u8,
     ) -> Self
-        ensures { λ r. ⌜ r ≡ turns.ending registers flags left dumped ending number ⌝ }
+        ensures { λ r. ⌜ r ≡ turns.ending regs flags left dumped ending number ⌝ }
     {
         Progress {
-            registers: registers,
+            regs: regs,
             flags: flags,
             left: left,
             dumped: dumped,

@@ -5,7 +5,7 @@ use mathlib.Core.Bool.{Bool, true, false, _&&_, _||_}
 use mathlib.Core.List.{List}
 use native.Mathlib.Omega.{arith}
 use lib.Dec.{eqb, leb}
-use lib.ListN.{length, getD}
+use lib.ListN.{length}
 use borrow.Author.Tests.{le-leb, lt-ltb, le-ltb, leb-true, eqb-true}
 use Rattle.inst.specs.Forms.{name, formOf, hasNone, hasEight, hasOne, hasName}
 use Rattle.inst.specs.Records.{nameIn, fits, wellFormed}

@@ -48,19 +48,19 @@ fn execute_jump(
     op: u64,
     found: LookedUp,
     flags: u8,
-    registers: Registers,
+    regs: Registers,
     calls: &mut [u64; CALL_LIMIT],
 ) -> Executed
-    requires { ⌜ Tested registers × (looksUp op ≡ true) ⌝ }
-    ensures { λ r. ⌜ Jumps op (foundOf found) registers flags (now (calls .entry)) r (now (calls .exit)) ⌝ }
+    requires { ⌜ Tested regs × (looksUp op ≡ true) ⌝ }
+    ensures { λ r. ⌜ Jumps op (foundOf found) regs flags (now (calls .entry)) r (now (calls .exit)) ⌝ }
 {
     if op == ops::CALL {
-        return call(registers, calls, found);
+        return call(regs, calls, found);
     }
     if op == ops::JMP {
-        return jump(registers, found);
+        return jump(regs, found);
     }
-    jump_if(registers, flags, op, found)
+    jump_if(regs, flags, op, found)
 }
 
 // Any other instruction. The ranges stay: with an arm for each first byte here the quick loop's code moves, and takes 1.9
@@ -68,40 +68,40 @@ fn execute_jump(
 fn execute_instruction(
     op: u64,
     v: u64,
-    registers: Registers,
+    regs: Registers,
     stack: &mut [u64; STACK_LIMIT],
     calls: &[u64; CALL_LIMIT],
     memory: &mut [u8; MEMORY_SIZE],
 ) -> Executed
-    requires { ⌜ Tested registers × (looksUp op ≡ false) ⌝ }
-    ensures { λ r. ⌜ Executes op v registers (now (stack .entry)) (now (calls .entry)) (now (memory .entry)) r (now (stack .exit)) (now (calls .entry)) (now (memory .exit)) ⌝ }
+    requires { ⌜ Tested regs × (looksUp op ≡ false) ⌝ }
+    ensures { λ r. ⌜ Executes op v regs (now (stack .entry)) (now (calls .entry)) (now (memory .entry)) r (now (stack .exit)) (now (calls .entry)) (now (memory .exit)) ⌝ }
 {
     match op {
-        ops::PUSH => cells::push(registers, stack, v),
-        ops::POP => cells::pop(registers),
-        ops::INC => cells::inc(registers, stack),
-        ops::DEC => cells::dec(registers, stack),
-        ops::IADD..=ops::IDIV => integer_step(registers, stack, op),
-        ops::CMP => compare(registers, stack),
-        ops::SWAP => cells::swap(registers, stack, v),
-        ops::DUP => cells::dup(registers, stack, v),
-        ops::BOT => cells::bot(registers, stack),
-        ops::FADD..=ops::FDIV => float_step(registers, stack, op),
-        ops::IDMP | ops::FDMP => dump(registers, stack, v),
-        ops::RET => ret(registers, calls),
-        ops::F2I..=ops::U2F => convert(registers, stack, op),
+        ops::PUSH => cells::push(regs, stack, v),
+        ops::POP => cells::pop(regs),
+        ops::INC => cells::inc(regs, stack),
+        ops::DEC => cells::dec(regs, stack),
+        ops::IADD..=ops::IDIV => integer_step(regs, stack, op),
+        ops::CMP => compare(regs, stack),
+        ops::SWAP => cells::swap(regs, stack, v),
+        ops::DUP => cells::dup(regs, stack, v),
+        ops::BOT => cells::bot(regs, stack),
+        ops::FADD..=ops::FDIV => float_step(regs, stack, op),
+        ops::IDMP | ops::FDMP => dump(regs, stack, v),
+        ops::RET => ret(regs, calls),
+        ops::F2I..=ops::U2F => convert(regs, stack, op),
         ops::READ8 | ops::READ16 | ops::READ32 | ops::READ64 => step_memory::read(
-            registers,
+            regs,
             stack,
             memory,
         ),
         ops::WRITE8 | ops::WRITE16 | ops::WRITE32 | ops::WRITE64 => step_memory::write(
-            registers,
+            regs,
             stack,
             memory,
         ),
-        ops::HALT => Executed::Halt(registers),
-        _ => onward(registers, registers.height),
+        ops::HALT => Executed::Halt(regs),
+        _ => onward(regs, regs.height),
     }
 }
 
@@ -115,17 +115,17 @@ pub fn step(
     keys: &mut [u8; KNOWN_LIMIT],
     targets: &mut [u16; KNOWN_LIMIT],
     flags: u8,
-    registers: Registers,
+    regs: Registers,
     found: LookedUp,
     stack: &mut [u64; STACK_LIMIT],
     calls: &mut [u64; CALL_LIMIT],
     memory: &mut [u8; MEMORY_SIZE],
 ) -> Tried
     requires { ⌜ now forms ≡ formTable ⌝ }
-    requires { ⌜ Inside registers × (count * 32 ≤ length (now insts)) × Sized (now keys) (now targets) × Listed (now insts) (now keys) (now targets) ⌝ }
-    ensures { λ r. ⌜ Tries (now (image .entry)) (now (insts .entry)) count registers flags found (arrays (now (keys .entry)) (now (targets .entry)) (now (stack .entry)) (now (calls .entry)) (now (memory .entry))) r (arrays (now (keys .exit)) (now (targets .exit)) (now (stack .exit)) (now (calls .exit)) (now (memory .exit))) ⌝ }
+    requires { ⌜ Inside regs × (count * 32 ≤ length (now insts)) × Sized (now keys) (now targets) × Listed (now insts) (now keys) (now targets) ⌝ }
+    ensures { λ r. ⌜ Tries (now (image .entry)) (now (insts .entry)) count regs flags found (arrays (now (keys .entry)) (now (targets .entry)) (now (stack .entry)) (now (calls .entry)) (now (memory .entry))) r (arrays (now (keys .exit)) (now (targets .exit)) (now (stack .exit)) (now (calls .exit)) (now (memory .exit))) ⌝ }
 {
-    let ip = registers.ip;
+    let ip = regs.ip;
     if count <= ip {
         return Tried::Done(Executed::Ill);
     }
@@ -140,7 +140,7 @@ pub fn step(
                 len: number_at(insts, ip * 4 + 3),
             };
         }
-        let answer = execute_jump(op, found, flags, registers, calls);
+        let answer = execute_jump(op, found, flags, regs, calls);
         keep_jump(keys, targets, ip, op, found);
         Tried::Done(answer)
     } else {
@@ -148,7 +148,7 @@ pub fn step(
         Tried::Done(execute_instruction(
             op,
             number_at(insts, ip * 4 + 1),
-            registers,
+            regs,
             stack,
             calls,
             memory,

@@ -98,22 +98,22 @@ fn converted(op: u64, cell: u64) -> u64
     }
 }
 
-pub fn convert(registers: Registers, stack: &mut [u64; STACK_LIMIT], op: u64) -> Executed
-    requires { ⌜ Tested registers ⌝ }
-    ensures { λ r. ⌜ OnStack (definition.convert (conversionOf op)) registers (now (stack .entry)) r (now (stack .exit)) ⌝ }
+pub fn convert(regs: Registers, stack: &mut [u64; STACK_LIMIT], op: u64) -> Executed
+    requires { ⌜ Tested regs ⌝ }
+    ensures { λ r. ⌜ OnStack (definition.convert (conversionOf op)) regs (now (stack .entry)) r (now (stack .exit)) ⌝ }
 {
-    let height = registers.height;
+    let height = regs.height;
     if 0 < height {
         let last = height - 1;
         let cell = stack[last];
         let t = conversion_trap(op, cell);
         if t == NO_TRAP {
             stack[last] = converted(op, cell);
-            onward(registers, height)
+            onward(regs, height)
         } else {
-            trap(registers, last, t)
+            trap(regs, last, t)
         }
     } else {
-        trap(registers, height, traps::STACK_UNDERFLOW)
+        trap(regs, height, traps::STACK_UNDERFLOW)
     }
 }

@@ -18,10 +18,10 @@ pub struct Registers {
 // leaves; 34, nothing changed.
 pub enum Executed {
     Next(Registers),
-    Compared { registers: Registers, flags: u8 },
-    Dump { registers: Registers, cell: u64 },
+    Compared(Registers, u8),
+    Dump(Registers, u64),
     Halt(Registers),
-    Trap { registers: Registers, number: u8 },
+    Trap(Registers, u8),
     Ill,
 }
 
@@ -47,38 +47,38 @@ pub fn is_asked(found: LookedUp) -> bool
 
 // Success with the height given: the pointer goes to the next instruction. Called only by our own steps, which know
 // that the pointer is below a table's length.
-pub fn onward(registers: Registers, height: usize) -> Executed
-    requires { ⌜ registers .ip + 1 < 2 ^ 64 ⌝ }
-    ensures { λ r. ⌜ r ≡ Next (record { ip = registers .ip + 1; height = height; «call_height» = registers .«call_height» }) ⌝ }
+pub fn onward(regs: Registers, height: usize) -> Executed
+    requires { ⌜ regs .ip + 1 < 2 ^ 64 ⌝ }
+    ensures { λ r. ⌜ r ≡ Next (record { ip = regs .ip + 1; height = height; «call_height» = regs .«call_height» }) ⌝ }
 {
     Executed::Next(Registers {
-        ip: registers.ip + 1,
+        ip: regs.ip + 1,
         height: height,
-        call_height: registers.call_height,
+        call_height: regs.call_height,
     })
 }
 
 // Success with the pointer at `to`.
-pub fn moved(registers: Registers, to: usize) -> Executed
-    ensures { λ r. ⌜ r ≡ Next (record { ip = to; height = registers .height; «call_height» = registers .«call_height» }) ⌝ }
+pub fn moved(regs: Registers, to: usize) -> Executed
+    ensures { λ r. ⌜ r ≡ Next (record { ip = to; height = regs .height; «call_height» = regs .«call_height» }) ⌝ }
 {
     Executed::Next(Registers {
         ip: to,
-        height: registers.height,
-        call_height: registers.call_height,
+        height: regs.height,
+        call_height: regs.call_height,
     })
 }
 
 // The trap t, which leaves the height given.
-pub fn trap(registers: Registers, height: usize, t: u8) -> Executed
-    ensures { λ r. ⌜ r ≡ Trap (record { ip = registers .ip; height = height; «call_height» = registers .«call_height» }) t ⌝ }
+pub fn trap(regs: Registers, height: usize, t: u8) -> Executed
+    ensures { λ r. ⌜ r ≡ Trap (record { ip = regs .ip; height = height; «call_height» = regs .«call_height» }) t ⌝ }
 {
-    Executed::Trap {
-        registers: Registers {
-            ip: registers.ip,
+    Executed::Trap(
+        Registers {
+            ip: regs.ip,
             height: height,
-            call_height: registers.call_height,
+            call_height: regs.call_height,
         },
-        number: t,
-    }
+        t,
+    )
 }

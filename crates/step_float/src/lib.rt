@@ -41,18 +41,18 @@ fn of_floats(op: u64, a: u64, b: u64) -> u64
     }
 }
 
-pub fn float_step(registers: Registers, stack: &mut [u64; STACK_LIMIT], op: u64) -> Executed
-    requires { ⌜ Tested registers ⌝ }
-    ensures { λ r. ⌜ OnStack (definition.floatStep (floatOf op)) registers (now (stack .entry)) r (now (stack .exit)) ⌝ }
+pub fn float_step(regs: Registers, stack: &mut [u64; STACK_LIMIT], op: u64) -> Executed
+    requires { ⌜ Tested regs ⌝ }
+    ensures { λ r. ⌜ OnStack (definition.floatStep (floatOf op)) regs (now (stack .entry)) r (now (stack .exit)) ⌝ }
 {
-    let height = registers.height;
+    let height = regs.height;
     if 2 <= height {
         let last = height - 1;
         let b = stack[last];
         let a = stack[last - 1];
         stack[last - 1] = of_floats(op, a, b);
-        onward(registers, last)
+        onward(regs, last)
     } else {
-        trap(registers, height, traps::STACK_UNDERFLOW)
+        trap(regs, height, traps::STACK_UNDERFLOW)
     }
 }

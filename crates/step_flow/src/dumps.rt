@@ -16,25 +16,25 @@ fn is_stream(stream: u64) -> bool
     if stream == 1 { true } else { stream == 2 }
 }
 
-pub fn dump(registers: Registers, stack: &[u64; STACK_LIMIT], stream: u64) -> Executed
-    requires { ⌜ Tested registers ⌝ }
-    ensures { λ r. ⌜ OnStack (definition.dump stream) registers (now (stack .entry)) r (now (stack .entry)) ⌝ }
+pub fn dump(regs: Registers, stack: &[u64; STACK_LIMIT], stream: u64) -> Executed
+    requires { ⌜ Tested regs ⌝ }
+    ensures { λ r. ⌜ OnStack (definition.dump stream) regs (now (stack .entry)) r (now (stack .entry)) ⌝ }
 {
-    let height = registers.height;
+    let height = regs.height;
     if 0 < height {
         if is_stream(stream) {
-            Executed::Dump {
-                registers: Registers {
-                    ip: registers.ip + 1,
+            Executed::Dump(
+                Registers {
+                    ip: regs.ip + 1,
                     height: height,
-                    call_height: registers.call_height,
+                    call_height: regs.call_height,
                 },
-                cell: stack[height - 1],
-            }
+                stack[height - 1],
+            )
         } else {
-            trap(registers, height, traps::UNKNOWN_STREAM)
+            trap(regs, height, traps::UNKNOWN_STREAM)
         }
     } else {
-        trap(registers, height, traps::STACK_UNDERFLOW)
+        trap(regs, height, traps::STACK_UNDERFLOW)
     }
 }

@@ -11,60 +11,54 @@ use step_core::Registers;
 use step_core::moved;
 use step_core::trap;
 
-pub fn compare(registers: Registers, stack: &[u64; STACK_LIMIT]) -> Executed
-    requires { ⌜ Tested registers ⌝ }
-    ensures { λ r. ⌜ OnStack definition.compare registers (now (stack .entry)) r (now (stack .entry)) ⌝ }
+pub fn compare(regs: Registers, stack: &[u64; STACK_LIMIT]) -> Executed
+    requires { ⌜ Tested regs ⌝ }
+    ensures { λ r. ⌜ OnStack definition.compare regs (now (stack .entry)) r (now (stack .entry)) ⌝ }
 {
-    let height = registers.height;
+    let height = regs.height;
     if 2 <= height {
         let last = height - 1;
         let b = nan::as_u64(stack[last]);
         let a = nan::as_u64(stack[last - 1]);
-        Executed::Compared {
-            registers: Registers {
-                ip: registers.ip + 1,
+        Executed::Compared(
+            Registers {
+                ip: regs.ip + 1,
                 height: last,
-                call_height: registers.call_height,
+                call_height: regs.call_height,
             },
-            flags: flag::cmp(a, b),
-        }
+            flag::cmp(a, b),
+        )
     } else {
-        trap(registers, height, traps::STACK_UNDERFLOW)
+        trap(regs, height, traps::STACK_UNDERFLOW)
     }
 }
 
-pub fn jump(registers: Registers, found: LookedUp) -> Executed
-    requires { ⌜ Tested registers ⌝ }
-    ensures { λ r. ⌜ OnRegisters (definition.jump (foundOf found)) registers r ⌝ }
+pub fn jump(regs: Registers, found: LookedUp) -> Executed
+    requires { ⌜ Tested regs ⌝ }
+    ensures { λ r. ⌜ OnRegisters (definition.jump (foundOf found)) regs r ⌝ }
 {
     match found {
         LookedUp::NotAsked => Executed::Ill,
-        LookedUp::NoLabel => Executed::Trap {
-            registers: registers,
-            number: traps::INVALID_LABEL,
-        },
+        LookedUp::NoLabel => Executed::Trap(regs, traps::INVALID_LABEL),
         LookedUp::IllChain => Executed::Ill,
-        LookedUp::Target(t) => moved(registers, t),
+        LookedUp::Target(t) => moved(regs, t),
     }
 }
 
 // `op` is the first byte, 12 to 19. The label is looked up before the flag: `found` comes first.
-pub fn jump_if(registers: Registers, flags: u8, op: u64, found: LookedUp) -> Executed
-    requires { ⌜ Tested registers × (12 ≤ op) × (op ≤ 19) ⌝ }
-    ensures { λ r. ⌜ OnRegisters (definition.jumpIf (isSet flags op) (foundOf found)) registers r ⌝ }
+pub fn jump_if(regs: Registers, flags: u8, op: u64, found: LookedUp) -> Executed
+    requires { ⌜ Tested regs × (12 ≤ op) × (op ≤ 19) ⌝ }
+    ensures { λ r. ⌜ OnRegisters (definition.jumpIf (isSet flags op) (foundOf found)) regs r ⌝ }
 {
     match found {
         LookedUp::NotAsked => Executed::Ill,
-        LookedUp::NoLabel => Executed::Trap {
-            registers: registers,
-            number: traps::INVALID_LABEL,
-        },
+        LookedUp::NoLabel => Executed::Trap(regs, traps::INVALID_LABEL),
         LookedUp::IllChain => Executed::Ill,
         LookedUp::Target(t) => {
             if flag::is_set(flags, op) {
-                moved(registers, t)
+                moved(regs, t)
             } else {
-                moved(registers, registers.ip + 1)
+                moved(regs, regs.ip + 1)
             }
         }
     }

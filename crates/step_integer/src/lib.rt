@@ -81,26 +81,26 @@ fn of_cells(op: u64, a: u64, b: u64) -> u64
 }
 
 // As an I64 cell is known, the test for both comes before 31.
-pub fn integer_step(registers: Registers, stack: &mut [u64; STACK_LIMIT], op: u64) -> Executed
-    requires { ⌜ Tested registers ⌝ }
-    ensures { λ r. ⌜ OnStack (definition.integerStep (integerOf op)) registers (now (stack .entry)) r (now (stack .exit)) ⌝ }
+pub fn integer_step(regs: Registers, stack: &mut [u64; STACK_LIMIT], op: u64) -> Executed
+    requires { ⌜ Tested regs ⌝ }
+    ensures { λ r. ⌜ OnStack (definition.integerStep (integerOf op)) regs (now (stack .entry)) r (now (stack .exit)) ⌝ }
 {
-    let height = registers.height;
+    let height = regs.height;
     if 2 <= height {
         let last = height - 1;
         let b = stack[last];
         let a = stack[last - 1];
         if both_i64(a, b) {
             if is_zero_division(op, b) {
-                trap(registers, last, traps::DIVISION_BY_ZERO)
+                trap(regs, last, traps::DIVISION_BY_ZERO)
             } else {
                 stack[last - 1] = of_cells(op, a, b);
-                onward(registers, last)
+                onward(regs, last)
             }
         } else {
-            trap(registers, last, type_trap(a, b))
+            trap(regs, last, type_trap(a, b))
         }
     } else {
-        trap(registers, height, traps::STACK_UNDERFLOW)
+        trap(regs, height, traps::STACK_UNDERFLOW)
     }
 }

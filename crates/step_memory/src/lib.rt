@@ -29,48 +29,44 @@ fn byte_at(memory: &[u8; MEMORY_SIZE], at: usize) -> u64
     wide(memory[at])
 }
 
-pub fn read(
-    registers: Registers,
-    stack: &mut [u64; STACK_LIMIT],
-    memory: &[u8; MEMORY_SIZE],
-) -> Executed
-    requires { ⌜ Tested registers ⌝ }
-    ensures { λ r. ⌜ OnBoth definition.read registers (now (stack .entry)) (now (memory .entry)) r (now (stack .exit)) (now (memory .entry)) ⌝ }
+pub fn read(regs: Registers, stack: &mut [u64; STACK_LIMIT], memory: &[u8; MEMORY_SIZE]) -> Executed
+    requires { ⌜ Tested regs ⌝ }
+    ensures { λ r. ⌜ OnBoth definition.read regs (now (stack .entry)) (now (memory .entry)) r (now (stack .exit)) (now (memory .entry)) ⌝ }
 {
-    let height = registers.height;
+    let height = regs.height;
     if 0 < height {
         let at = nan::as_u64(stack[height - 1]) as usize;
         if at < MEMORY_SIZE {
             stack[height - 1] = nan::from_u64(byte_at(memory, at));
-            onward(registers, height)
+            onward(regs, height)
         } else {
-            trap(registers, height - 1, traps::ILLEGAL_MEMORY_ACCESS)
+            trap(regs, height - 1, traps::ILLEGAL_MEMORY_ACCESS)
         }
     } else {
-        trap(registers, height, traps::STACK_UNDERFLOW)
+        trap(regs, height, traps::STACK_UNDERFLOW)
     }
 }
 
 pub fn write(
-    registers: Registers,
+    regs: Registers,
     stack: &[u64; STACK_LIMIT],
     memory: &mut [u8; MEMORY_SIZE],
 ) -> Executed
-    requires { ⌜ Tested registers ⌝ }
-    ensures { λ r. ⌜ OnBoth definition.write registers (now (stack .entry)) (now (memory .entry)) r (now (stack .entry)) (now (memory .exit)) ⌝ }
+    requires { ⌜ Tested regs ⌝ }
+    ensures { λ r. ⌜ OnBoth definition.write regs (now (stack .entry)) (now (memory .entry)) r (now (stack .entry)) (now (memory .exit)) ⌝ }
 {
-    let height = registers.height;
+    let height = regs.height;
     if 2 <= height {
         let last = height - 1;
         let at = nan::as_u64(stack[last - 1]) as usize;
         let value = nan::as_u64(stack[last]);
         if at < MEMORY_SIZE {
             memory[at] = (value % 256) as u8;
-            onward(registers, height - 2)
+            onward(regs, height - 2)
         } else {
-            trap(registers, height - 2, traps::ILLEGAL_MEMORY_ACCESS)
+            trap(regs, height - 2, traps::ILLEGAL_MEMORY_ACCESS)
         }
     } else {
-        trap(registers, height, traps::STACK_UNDERFLOW)
+        trap(regs, height, traps::STACK_UNDERFLOW)
     }
 }

@@ -10,99 +10,99 @@ use step_core::Registers;
 use step_core::onward;
 use step_core::trap;
 
-pub fn push(registers: Registers, stack: &mut [u64; STACK_LIMIT], cell: u64) -> Executed
-    requires { ⌜ Tested registers ⌝ }
-    ensures { λ r. ⌜ OnStack (definition.push cell) registers (now (stack .entry)) r (now (stack .exit)) ⌝ }
+pub fn push(regs: Registers, stack: &mut [u64; STACK_LIMIT], cell: u64) -> Executed
+    requires { ⌜ Tested regs ⌝ }
+    ensures { λ r. ⌜ OnStack (definition.push cell) regs (now (stack .entry)) r (now (stack .exit)) ⌝ }
 {
-    let height = registers.height;
+    let height = regs.height;
     if height < STACK_LIMIT {
         stack[height] = cell;
-        onward(registers, height + 1)
+        onward(regs, height + 1)
     } else {
-        trap(registers, height, traps::STACK_OVERFLOW)
+        trap(regs, height, traps::STACK_OVERFLOW)
     }
 }
 
-pub fn pop(registers: Registers) -> Executed
-    requires { ⌜ Tested registers ⌝ }
-    ensures { λ r. ⌜ OnRegisters definition.pop registers r ⌝ }
+pub fn pop(regs: Registers) -> Executed
+    requires { ⌜ Tested regs ⌝ }
+    ensures { λ r. ⌜ OnRegisters definition.pop regs r ⌝ }
 {
-    let height = registers.height;
+    let height = regs.height;
     if 0 < height {
-        onward(registers, height - 1)
+        onward(regs, height - 1)
     } else {
-        trap(registers, height, traps::STACK_UNDERFLOW)
+        trap(regs, height, traps::STACK_UNDERFLOW)
     }
 }
 
-pub fn inc(registers: Registers, stack: &mut [u64; STACK_LIMIT]) -> Executed
-    requires { ⌜ Tested registers ⌝ }
-    ensures { λ r. ⌜ OnStack (definition.adjust integers.inc) registers (now (stack .entry)) r (now (stack .exit)) ⌝ }
+pub fn inc(regs: Registers, stack: &mut [u64; STACK_LIMIT]) -> Executed
+    requires { ⌜ Tested regs ⌝ }
+    ensures { λ r. ⌜ OnStack (definition.adjust integers.inc) regs (now (stack .entry)) r (now (stack .exit)) ⌝ }
 {
-    let height = registers.height;
+    let height = regs.height;
     if 0 < height {
         let cell = stack[height - 1];
         stack[height - 1] = integer::inc(cell);
-        onward(registers, height)
+        onward(regs, height)
     } else {
-        trap(registers, height, traps::STACK_UNDERFLOW)
+        trap(regs, height, traps::STACK_UNDERFLOW)
     }
 }
 
-pub fn dec(registers: Registers, stack: &mut [u64; STACK_LIMIT]) -> Executed
-    requires { ⌜ Tested registers ⌝ }
-    ensures { λ r. ⌜ OnStack (definition.adjust integers.dec) registers (now (stack .entry)) r (now (stack .exit)) ⌝ }
+pub fn dec(regs: Registers, stack: &mut [u64; STACK_LIMIT]) -> Executed
+    requires { ⌜ Tested regs ⌝ }
+    ensures { λ r. ⌜ OnStack (definition.adjust integers.dec) regs (now (stack .entry)) r (now (stack .exit)) ⌝ }
 {
-    let height = registers.height;
+    let height = regs.height;
     if 0 < height {
         let cell = stack[height - 1];
         stack[height - 1] = integer::dec(cell);
-        onward(registers, height)
+        onward(regs, height)
     } else {
-        trap(registers, height, traps::STACK_UNDERFLOW)
+        trap(regs, height, traps::STACK_UNDERFLOW)
     }
 }
 
 // A depth is a whole u64: it is compared before it becomes an index.
-pub fn swap(registers: Registers, stack: &mut [u64; STACK_LIMIT], depth: u64) -> Executed
-    requires { ⌜ Tested registers ⌝ }
-    ensures { λ r. ⌜ OnStack (definition.swap depth) registers (now (stack .entry)) r (now (stack .exit)) ⌝ }
+pub fn swap(regs: Registers, stack: &mut [u64; STACK_LIMIT], depth: u64) -> Executed
+    requires { ⌜ Tested regs ⌝ }
+    ensures { λ r. ⌜ OnStack (definition.swap depth) regs (now (stack .entry)) r (now (stack .exit)) ⌝ }
 {
-    let height = registers.height;
+    let height = regs.height;
     if depth < height as u64 {
         let at = height - 1 - depth as usize;
         let top = stack[height - 1];
         let cell = stack[at];
         stack[at] = top;
         stack[height - 1] = cell;
-        onward(registers, height)
+        onward(regs, height)
     } else {
-        trap(registers, height, traps::STACK_UNDERFLOW)
+        trap(regs, height, traps::STACK_UNDERFLOW)
     }
 }
 
-pub fn dup(registers: Registers, stack: &mut [u64; STACK_LIMIT], depth: u64) -> Executed
-    requires { ⌜ Tested registers ⌝ }
-    ensures { λ r. ⌜ OnStack (definition.dup depth) registers (now (stack .entry)) r (now (stack .exit)) ⌝ }
+pub fn dup(regs: Registers, stack: &mut [u64; STACK_LIMIT], depth: u64) -> Executed
+    requires { ⌜ Tested regs ⌝ }
+    ensures { λ r. ⌜ OnStack (definition.dup depth) regs (now (stack .entry)) r (now (stack .exit)) ⌝ }
 {
-    let height = registers.height;
+    let height = regs.height;
     if depth < height as u64 {
         let copied = stack[height - 1 - depth as usize];
-        push(registers, stack, copied)
+        push(regs, stack, copied)
     } else {
-        trap(registers, height, traps::STACK_UNDERFLOW)
+        trap(regs, height, traps::STACK_UNDERFLOW)
     }
 }
 
-pub fn bot(registers: Registers, stack: &mut [u64; STACK_LIMIT]) -> Executed
-    requires { ⌜ Tested registers ⌝ }
-    ensures { λ r. ⌜ OnStack definition.bot registers (now (stack .entry)) r (now (stack .exit)) ⌝ }
+pub fn bot(regs: Registers, stack: &mut [u64; STACK_LIMIT]) -> Executed
+    requires { ⌜ Tested regs ⌝ }
+    ensures { λ r. ⌜ OnStack definition.bot regs (now (stack .entry)) r (now (stack .exit)) ⌝ }
 {
-    let height = registers.height;
+    let height = regs.height;
     if 0 < height {
         let bottom = stack[0];
-        push(registers, stack, bottom)
+        push(regs, stack, bottom)
     } else {
-        trap(registers, height, traps::STACK_UNDERFLOW)
+        trap(regs, height, traps::STACK_UNDERFLOW)
     }
 }

@@ -1,7 +1,6 @@
 -- `digests::mix_cells` meets its contract. Assumes nothing.
 use Prim.Native.Nat.{_-_}
 use mathlib.Core.Path.{refl}
-use native.Mathlib.Omega.{arith}
 use borrow.Author.Needs.{needs}
 use lib.ListN.{length}
 use Rattle.digests.proofs.Laws.{Mixing, mixing-next, mixing-end}

@@ -1,5 +1,4 @@
 -- `digests::replay_image` meets its contract. Assumes nothing.
-use mathlib.Core.Path.{sym}
 use borrow.Author.Needs.{needs}
 use borrow.Author.Tests.{eq-eqb, ne-eqb}
 use Rattle.tables.proofs.Numbers.{length-records}

@@ -1,6 +1,5 @@
 -- `encoder::answer` meets its contract. Assumes nothing.
-use mathlib.Core.Path.{sym, _∙_, ap}
-use native.Mathlib.Omega.{arith}
+use mathlib.Core.Path.{sym}
 use Rattle.encoder.specs.Encoder.{means}
 use Rattle.encoder.proofs.Answers.{sized-long, room-fits}
 use borrow.Author.Needs.{needs}

@@ -1,6 +1,5 @@
 -- `encoder::taken` meets its contract. Assumes nothing.
 use Rattle.encoder.proofs.Answers.{taken-short, taken-fits}
-use borrow.Author.Needs.{needs}
 use Rattle.encoder.proofs.taken.Statement.{statement}
 use Rattle.encoder.proofs.taken.Tie as tie
 

@@ -101,8 +101,8 @@ use Rattle.hand_proofs.proofs.Again.{LentAgain, lends-again, comes-back}
 use Rattle.hand_proofs.proofs.Local.{Kind, array, Numbers, numbers, Fit, Lent, array-typed, lend, back, owns-array, repeats, fills}
 use Rattle.hand_proofs.proofs.Whole.{by-walk}
 use Rattle.hand_proofs.proofs.Words.{place, behind, sink, Slot, empty, holds, env, locals, local, part, _&_, none, pointer, lets, keeps, full1, past, aside, taken, number, made, shared, answers-last, replies}
-use Rattle.label_run.proofs.Runs.{registers, packed, program, State, Lower, falls, starts, is-ready, onward, lower, fewer, over}
-use Rattle.label_run.proofs.Fields.{Stack, Calls, Memory, Keys, Targets, machine-val, MachineIs, machine-fits, registers-val, registers-is, progress-val, ProgressIs, start-fits, len-fits, ran-val, RanIs}
+use Rattle.label_run.proofs.Runs.{regs, packed, program, State, Lower, falls, starts, is-ready, onward, lower, fewer, over}
+use Rattle.label_run.proofs.Fields.{Stack, Calls, Memory, Keys, Targets, machine-val, MachineIs, machine-fits, regs-val, regs-is, progress-val, ProgressIs, start-fits, len-fits, ran-val, RanIs}
 use Rattle.label_run.proofs.lookup as lookup
 use Rattle.label_run.proofs.lookup.Symbol as lookup-def
 use Rattle.label_run.proofs.lookup.Symbol.{name as #label-run·lookup}
@@ -290,10 +290,10 @@ module _ {M : Type 1} (𝓤 : URA M) (H : Heap 𝓤) (A : Atoms 𝓤) (W : Given
 
   -- ---- the call of `begin`
   abbrev args-begin : RefT (List ℕ) × (ℕ × (Registers × (ℕ × (Bool × (ℕ × Unit {0})))))
-  args-begin = (ins, (c, (registers m, (m .flags, (m .halted, (limit, tt))))))
+  args-begin = (ins, (c, (regs m, (m .flags, (m .halted, (limit, tt))))))
 
   abbrev sent-begin : List Val × (List Val × (List Val × (List Val × (List Val × (List Val × Unit {0})))))
-  sent-begin = (iv ∷ [], (vint w64 c ∷ [], (registers-val (registers m) ∷ [], (vint w8 (m .flags) ∷ [], (vbool (m .halted) ∷ [], (vint w64 limit ∷ [], tt))))))
+  sent-begin = (iv ∷ [], (vint w64 c ∷ [], (regs-val (regs m) ∷ [], (vint w8 (m .flags) ∷ [], (vbool (m .halted) ∷ [], (vint w64 limit ∷ [], tt))))))
 
   abbrev to-begin : Begin 𝓤 H A mem run .Ghost
   to-begin = (((κ₁, tt), (q₁, tt), tt, args-begin, sent-begin), tt)
@@ -312,13 +312,13 @@ module _ {M : Type 1} (𝓤 : URA M) (H : Heap 𝓤) (A : Atoms 𝓤) (W : Given
       qed W From-begin ∵ move ! (1 ∷ []) $ shared ! (named 1) κ₁ u8 ins (iv ∷ []) $
       -- [the instructions twice; κ₁]
       nothing ! $ number ! w64 limit fl $ fjoin ! $ owned ! bool (Is bool) (bool-makes 𝓤 H A W) (m .halted) _ refl $ fjoin ! $ number ! w8 (m .flags) (machine-fits m is-m .flags) $ fjoin ! $
-      made ! Co.the-type Co′.the-plain (registers m) _ (registers-is m is-m) $ fjoin ! $ number ! w64 c fc $ fjoin ! $ move ! (1 ∷ 0 ∷ []) $ fjoin ! $
+      made ! Co.the-type Co′.the-plain (regs m) _ (regs-is m is-m) $ fjoin ! $ number ! w64 c fc $ fjoin ! $ move ! (1 ∷ 0 ∷ []) $ fjoin ! $
       -- [what is passed; the instructions; κ₁]
       nothing ! $ move ! (3 ∷ 0 ∷ []) $ join ! $
       use2 W (raw (Begin 𝓤 H A mem run .pre to-begin)) (qed W (Tokens-begin ∷ ‵ (owns (ShrSlice (named 0) κ₁ u8 ∷ usize ∷ Co.the-row ∷ u8 ∷ bool ∷ u64 ∷ []) args-begin sent-begin) ∷ []) ∵ join ! $ frame ! $ done !) $ frame ! $ done !
 
   abbrev Begins : Progress → Type 0
-  Begins r = Begun (ins .now) c (registers m) (m .flags) (m .halted) limit r
+  Begins r = Begun (ins .now) c (regs m) (m .flags) (m .halted) limit r
 
   -- ---- the call of `pack`
   abbrev args-pack : Run → List ℕ × (List ℕ × (List ℕ × (Progress × (ℕ × Unit {0}))))
@@ -358,7 +358,7 @@ module _ {M : Type 1} (𝓤 : URA M) (H : Heap 𝓤) (A : Atoms 𝓤) (W : Given
     first-locals = parameters d₀ (empty Co′.mir l₈ ∷ empty (array Stack) l₉ ∷ empty (array Calls) l₁₀ ∷ empty (array Memory) l₁₁ ∷ empty (array Keys) l₁₂ ∷ empty (array Targets) l₁₃ ∷ empty Pg′.mir l₁₄ ∷ passing)
 
     abbrev turn-locals : Run → List Slot
-    turn-locals s = parameters (s .dumps) (holds Co′.mir l₈ (registers-val (registers m)) ∷ holds (array Stack) l₉ (numbers Stack (s .stack)) ∷ holds (array Calls) l₁₀ (numbers Calls (s .calls)) ∷ holds (array Memory) l₁₁ (numbers Memory (s .memory))
+    turn-locals s = parameters (s .dumps) (holds Co′.mir l₈ (regs-val (regs m)) ∷ holds (array Stack) l₉ (numbers Stack (s .stack)) ∷ holds (array Calls) l₁₀ (numbers Calls (s .calls)) ∷ holds (array Memory) l₁₁ (numbers Memory (s .memory))
         ∷ holds (array Keys) l₁₂ (numbers Keys (s .keys)) ∷ holds (array Targets) l₁₃ (numbers Targets (s .targets)) ∷ holds Pg′.mir l₁₄ (progress-val (s .o)) ∷ passing)
 
     abbrev E : Env 𝓤 H
@@ -504,7 +504,7 @@ module _ {M : Type 1} (𝓤 : URA M) (H : Heap 𝓤) (A : Atoms 𝓤) (W : Given
     begins is-keys is-targets =
         let f = machine-fits m is-m in
         -- [dumps; κ₃; the image; κ₀; the instructions; κ₁; the labels; κ₂]: registers, the machine's arrays, and two that know nothing
-        lets ! (agg ! (part ! (at 8 5) refl refl refl & part ! (at 8 5) refl refl refl & part ! (at 8 5) refl refl refl & none)) (init ! (at 8 8) refl (LL.lawful Co.the-type Co′.the-laws 𝓤 H A W .typed (registers m) _ (registers-is m is-m) .0)) $
+        lets ! (agg ! (part ! (at 8 5) refl refl refl & part ! (at 8 5) refl refl refl & part ! (at 8 5) refl refl refl & none)) (init ! (at 8 8) refl (LL.lawful Co.the-type Co′.the-laws 𝓤 H A W .typed (regs m) _ (regs-is m is-m) .0)) $
         lets ! (of-opd ! (part ! (at 8 5) refl refl refl)) (fills ! Stack (at 8 9) (m .stack) refl (f .stack)) $
         lets ! (of-opd ! (part ! (at 8 5) refl refl refl)) (fills ! Calls (at 8 10) (m .calls) refl (f .calls)) $
         lets ! (of-opd ! (part ! (at 8 5) refl refl refl)) (fills ! Memory (at 8 11) (m .memory) refl (f .memory)) $

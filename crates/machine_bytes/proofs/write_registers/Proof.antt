@@ -1,8 +1,6 @@
 -- `machine_bytes::write_registers` meets its contract. Assumes nothing.
-use mathlib.Core.Path.{ap, _∙_}
-use native.Mathlib.Omega.{arith}
 use lib.ListN.{length-set}
-use Rattle.machine_bytes.proofs.Fields.{registers-stored}
+use Rattle.machine_bytes.proofs.Fields.{regs-stored}
 use borrow.Author.Needs.{needs}
 use Rattle.machine_bytes.proofs.write_registers.Statement.{statement}
 use Rattle.machine_bytes.proofs.write_registers.Tie as tie
@@ -14,7 +12,7 @@ same-length : tie.Need-same-length
 same-length c = simp length-set (search needs)
 
 returns : tie.Need-returns
-returns c = rw (c .bit .ensures) (registers-stored _ _ _ _ _ _ _ _ _ (c .before .before .before .before .before .before .before .before .before .before .before .put-word .ensures) (c .before .before .before .before .before .before .before .put-word2 .ensures) (c .before .before .before .put-word3 .ensures))
+returns c = rw (c .bit .ensures) (regs-stored _ _ _ _ _ _ _ _ _ (c .before .before .before .before .before .before .before .before .before .before .before .put-word .ensures) (c .before .before .before .before .before .before .before .put-word2 .ensures) (c .before .before .before .put-word3 .ensures))
 
 pub write-registers-spec : {M : Type 1} → statement M
 write-registers-spec =

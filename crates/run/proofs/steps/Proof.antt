@@ -7,11 +7,11 @@ use Rattle.run.proofs.steps.Statement.{statement}
 use Rattle.run.proofs.steps.Tie as tie
 
 abbrev Inv-loop : tie.InvT-loop
-Inv-loop image insts count stack₀ calls₀ memory₀ keys₀ targets₀ dumps₀ forms core₀ flags₀ left₀ n₀ found₀ stack calls memory keys targets dumps registers flags left n found =
-    Loops image insts count core₀ flags₀ left₀ n₀ found₀ dumps₀ keys₀ targets₀ stack₀ calls₀ memory₀ registers flags left n found dumps keys targets stack calls memory
+Inv-loop image insts count stack₀ calls₀ memory₀ keys₀ targets₀ dumps₀ forms core₀ flags₀ left₀ n₀ found₀ stack calls memory keys targets dumps regs flags left n found =
+    Loops image insts count core₀ flags₀ left₀ n₀ found₀ dumps₀ keys₀ targets₀ stack₀ calls₀ memory₀ regs flags left n found dumps keys targets stack calls memory
 
 abbrev μ-loop : tie.MeasureT-loop
-μ-loop image insts count stack₀ calls₀ memory₀ keys₀ targets₀ dumps₀ forms core₀ flags₀ left₀ n₀ found₀ stack calls memory keys targets dumps registers flags left n found = left
+μ-loop image insts count stack₀ calls₀ memory₀ keys₀ targets₀ dumps₀ forms core₀ flags₀ left₀ n₀ found₀ stack calls memory keys targets dumps regs flags left n found = left
 
 loop-holds : tie.Need-loop-holds Inv-loop μ-loop
 loop-holds c = loop-starts _ _ _ _ _ _ _ _ _ _ _ (c .before .before .before .before .before .pre .small) (c .before .before .before .before .before .pre .filled) (c .before .before .before .before .before .pre .sized) (c .before .before .before .before .before .pre .listed)

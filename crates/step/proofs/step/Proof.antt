@@ -1,5 +1,5 @@
 -- `step::step` meets its contract. Assumes nothing.
-use lib.ListN.{getD, length}
+use lib.ListN.{length}
 use Prim.Native.Nat.{ℕ, _+_, _*_, _<_}
 use borrow.Author.Tests.{not-true, not-false}
 use native.Mathlib.Omega.{arith}
@@ -26,13 +26,13 @@ returns-2 c = record { small = tt; sized = c .before .before .before .before .be
 returns-3 : tie.Need-returns-3
 returns-3 c =
     let formed = sym (c .before .before .before .before .before .before .before .before .is-well-formed-at .ensures) ∙ not-false _ (c .before .before .before .before .before .before .before .if2 .left) in
-    record { small = tt; sized = c .before .before .before .before .before .before .before .before .before .before .before .before .pre .1 .2; listed = c .before .before .before .before .before .before .before .before .before .before .before .before .pre .1 .3; tried = λ labels told. (sym (c .before .before .before .is-asked .ensures) ∙ not-true _ (c .before .before .if4 .taken), rw (c .before .number-at2 .ensures, c .number-at3 .ensures) (name-lies _ (c .before .before .before .before .before .before .before .before .before .before .before .before .args .insts .now) (c .before .before .before .before .before .before .before .before .before .before .before .before .args .registers .ip) formed (rw (← (c .before .before .before .before .before .before .number-at .ensures)) (sym (c .before .before .before .before .before .looks-up .ensures) ∙ c .before .before .before .before .if3 .taken))), (sym (c .before .number-at2 .ensures), sym (c .number-at3 .ensures)), refl) }
+    record { small = tt; sized = c .before .before .before .before .before .before .before .before .before .before .before .before .pre .1 .2; listed = c .before .before .before .before .before .before .before .before .before .before .before .before .pre .1 .3; tried = λ labels told. (sym (c .before .before .before .is-asked .ensures) ∙ not-true _ (c .before .before .if4 .taken), rw (c .before .number-at2 .ensures, c .number-at3 .ensures) (name-lies _ (c .before .before .before .before .before .before .before .before .before .before .before .before .args .insts .now) (c .before .before .before .before .before .before .before .before .before .before .before .before .args .regs .ip) formed (rw (← (c .before .before .before .before .before .before .number-at .ensures)) (sym (c .before .before .before .before .before .looks-up .ensures) ∙ c .before .before .before .before .if3 .taken))), (sym (c .before .number-at2 .ensures), sym (c .number-at3 .ensures)), refl) }
 
 execute-jump-requires : tie.Need-execute-jump-requires
 execute-jump-requires c κs = ((c .before .before .before .before .before .before .before .before .before .before .before .pre .1 .0 .0, c .before .before .before .before .before .before .before .before .before .before .before .pre .1 .0 .1, search needs), sym (c .before .before .before .before .looks-up .ensures) ∙ c .before .before .before .if3 .taken)
 
 keep-jump-requires : tie.Need-keep-jump-requires
-keep-jump-requires c κs = omega (arith, c .before .before .before .before .before .before .before .before .number-at .ensures, typ-byte _ (instOf (c .before .before .before .before .before .before .before .before .before .before .before .before .before .before .args .insts .now) (c .before .before .before .before .before .before .before .before .before .before .before .before .before .before .args .registers .ip)) (sym (c .before .before .before .before .before .before .before .before .before .before .is-well-formed-at .ensures) ∙ not-false _ (c .before .before .before .before .before .before .before .before .before .if2 .left)))
+keep-jump-requires c κs = omega (arith, c .before .before .before .before .before .before .before .before .number-at .ensures, typ-byte _ (instOf (c .before .before .before .before .before .before .before .before .before .before .before .before .before .before .args .insts .now) (c .before .before .before .before .before .before .before .before .before .before .before .before .before .before .args .regs .ip)) (sym (c .before .before .before .before .before .before .before .before .before .before .is-well-formed-at .ensures) ∙ not-false _ (c .before .before .before .before .before .before .before .before .before .if2 .left)))
 
 learn-requires : tie.Need-learn-requires
 learn-requires c κs = (c .before .before .before .before .before .before .before .before .before .pre .0, (c .before .before .before .before .before .before .before .before .before .pre .1 .1, c .before .before .before .before .before .before .before .before .before .pre .1 .2 .keys-long))
@@ -44,7 +44,7 @@ returns-4 : tie.Need-returns-4
 returns-4 c =
     let formed = sym (c .before .before .before .before .before .before .before .before .before .before .before .is-well-formed-at .ensures) ∙ not-false _ (c .before .before .before .before .before .before .before .before .before .before .if2 .left) in
     let xs = c .before .before .before .before .before .before .before .before .before .before .before .before .before .before .before .args .insts .now in
-    let ip = c .before .before .before .before .before .before .before .before .before .before .before .before .before .before .before .args .registers .ip in
+    let ip = c .before .before .before .before .before .before .before .before .before .before .before .before .before .before .before .args .regs .ip in
     let kept = rw (c .before .before .before .before .before .before .before .before .before .number-at .ensures) at (c .keep-jump .ensures) in
     let below = c .before .before .before .before .before .before .before .before .before .before .before .before .if1 .left in
     record {
@@ -61,7 +61,7 @@ returns-5 : tie.Need-returns-5
 returns-5 c =
     let formed = sym (c .before .before .before .before .before .before .before .before .before .before .before .is-well-formed-at .ensures) ∙ not-false _ (c .before .before .before .before .before .before .before .before .before .before .if2 .left) in
     let xs = c .before .before .before .before .before .before .before .before .before .before .before .before .before .before .before .args .insts .now in
-    let ip = c .before .before .before .before .before .before .before .before .before .before .before .before .before .before .before .args .registers .ip in
+    let ip = c .before .before .before .before .before .before .before .before .before .before .before .before .before .before .before .args .regs .ip in
     let image = c .before .before .before .before .before .before .before .before .before .before .before .before .before .before .before .args .image .now in
     let targets = c .before .before .before .before .before .before .before .before .before .before .before .before .before .before .before .args .targets .now in
     let below = c .before .before .before .before .before .before .before .before .before .before .before .before .if1 .left in

@@ -1,9 +1,7 @@
 -- `loader::reading::next_inst` meets its contract. Assumes nothing.
 use mathlib.Core.Path.{refl, sym, ap, _∙_}
 use native.Mathlib.Omega.{arith}
-use Rattle.inst.specs.Records.{part, same}
 use Rattle.inst_decode.specs.Decode.{means}
-use Rattle.machine.specs.Load.{startName}
 use Rattle.inst_decode.proofs.Facts.{read-in}
 use Rattle.loader.specs.Reading.{Ahead}
 use Rattle.loader.proofs.Instructions.{refused-is, next-refused, next-five, next-six, next-plain, next-label, further-at}
