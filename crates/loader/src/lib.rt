@@ -1,6 +1,6 @@
 // The loader (Mm::from_binary of mm's mm.rs): an image read into two lent tables.
-// A first pass without a write finds every refusal, the pointer and the count (checking); a second one fills the instruction
-// table (filling), both by one function that reads (reading); a third, over the filled table, links the labels (labels).
+// A first pass without a write finds every refusal, the pointer and the count (checking, reading); a second one fills the
+// instruction table (filling); a third, over the filled table, links the labels (labels).
 ghost use mathlib.Core.Path.{_≡_};
 ghost use Rattle.loader.specs.Loading.{freshAt, FromBinary};
 

@@ -96,8 +96,8 @@ fn labelled(c: Counts, start: bool, index: usize) -> Counts
     d
 }
 
-// One instruction more: 2, 3 or 4, then 5, 6. The answer is that of whatever scan the counts stand for: only the two passes
-// call it, with counts that stand for one, and lend it the table of forms.
+// One instruction more: 2, 3 or 4, then 5, 6. The answer is that of whatever scan the counts stand for: only the first
+// pass calls it, with counts that stand for one, and lends it the table of forms.
 pub fn next_inst(forms: &[u8; TABLE_SIZE], image: &[u8], c: Counts) -> Next
     requires { ⌜ now forms ≡ formTable ⌝ }
     ensures { λ r. ⌜ ((s : Scan) → 0 < length (s .labels) → c ≡ countsOf (now (image .entry)) s → r ≡ nextOf (now (image .entry)) (scanOne s (fromBytes (now (image .entry)) (s .at)))) ⌝ }
