@@ -7,7 +7,7 @@ use native.Mathlib.Omega.{arith}
 use mathlib.Core.Bool.{Bool, true, false, cond}
 use borrow.Author.Tests.{ltb-false, le-ltb, le-leb, lt-leb, leb-true, leb-false, eqb-false, ne-eqb}
 use lib.Arith.{lt-of-le-ne}
-use lib.Dec.{T, leb, ltb, eqb, lit<}
+use lib.Dec.{T, leb, eqb, lit<}
 use Rattle.binary64.proofs.Unbounded.{lt-or-ge, carried}
 use Rattle.binary64.proofs.Bounded.{units-le}
 use Rattle.binary64.specs.Rounding.{apart, units, NearestEven}

@@ -5,8 +5,7 @@ use native.Mathlib.Omega.{arith}
 use mathlib.Core.Bool.{Bool, true, false, not}
 use borrow.Author.Tests.{ne-eqb}
 use lib.Dec.{eqb}
-use Rattle.binary64.specs.Binary64.{infinity, quiet, Value, notANumber, infinite, finite, value, withSign, unlike, sum, opposite, product, quotient, sumBits, differenceBits, productBits, quotientBits}
-use Rattle.binary64.specs.SpecialCases.{SpecialCases}
+use Rattle.binary64.specs.Binary64.{infinity, quiet, Value, notANumber, infinite, finite, value, withSign, sum, opposite, product, quotient, sumBits, differenceBits, productBits, quotientBits}
 use Rattle.binary64.specs.Theorems.{SpecialCasesHold}
 
 pub sum-nan : (x : Value) → sum x notANumber ≡ quiet

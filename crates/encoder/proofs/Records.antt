@@ -11,8 +11,7 @@ use lib.Seq.{sets, drop-cons, getD-take, length-take-le, length-sets}
 use Rattle.inst.specs.declared.Inst.{Inst}
 use Rattle.inst.specs.Records.{wellFormed}
 use Rattle.inst.proofs.Laws.{never, and-left, and-right, sets-more}
-use Rattle.inst_encode.specs.Encode.{asBytes, encodedSize}
-use Rattle.inst_encode.proofs.Facts.{size-is}
+use Rattle.inst_encode.specs.Encode.{asBytes}
 use Rattle.machine.specs.Encode.{allWellFormed, bytesOfAll, encode, unencoded}
 use Rattle.encoder.specs.declared.Room.{Room}
 use Rattle.encoder.specs.declared.Written.{Written}
@@ -57,12 +56,12 @@ module _ (image : List ℕ) (is : List Inst) (count room : ℕ) where
     checked-ill x out h e w = ill image is count out (s .well ∙ rw (left-next is count (s .within) i x h e, w))
 
     -- or its size is added
-    pub checked-next : (x : Inst) (len : ℕ) (r′ : Room) → i < count → IsAt is i x → wellFormed image x ≡ true → len ≡ encodedSize x
+    pub checked-next : (x : Inst) (len : ℕ) (r′ : Room) → i < count → IsAt is i x → wellFormed image x ≡ true → len ≡ length (asBytes image x)
         → ((room n : ℕ) → Fits room n r → Fits room (n + len) r′) → Checked image is count room r′ (i + 1)
     unfolding allWellFormed bytesOfAll
     checked-next x len r′ h e w l f =
         let next = left-next is count (s .within) i x h e in
-        let t = simp (next, length-append, size-is image x w) at (s .total) in
+        let t = simp (next, length-append) at (s .total) in
         record {
           within = s .within;
           inside = omega arith;

@@ -2,6 +2,7 @@
 ghost use mathlib.Core.Path.{_≡_};
 ghost use Prim.Native.Nat.{_≤_};
 ghost use Rattle.flag.specs.Flags as spec;
+use inst::ops;
 
 const E: u8 = 1;
 
@@ -38,10 +39,10 @@ pub fn cmp(a: u64, b: u64) -> u8
 }
 
 // Whether the flag that the jump with the first byte `op` tests is set. Only our own steps call it, for the
-// conditional jumps, 12 to 19.
+// conditional jumps, JE to JNZ.
 pub fn is_set(flags: u8, op: u64) -> bool
     requires { ⌜ 12 ≤ op ⌝ ∗ ⌜ op ≤ 19 ⌝ }
     ensures { λ r. ⌜ r ≡ spec.isSet flags op ⌝ }
 {
-    (flags >> (op - 12)) % 2 == 1
+    (flags >> (op - ops::JE)) % 2 == 1
 }

@@ -76,6 +76,3 @@ told image at =
 
 pub read-in : (image : List ℕ) (at : ℕ) (i : Inst) (size : ℕ) → fromBytes image at ≡ reads i size → ReadIn image at i size
 read-in image at i size e = subst (Told image at) e (told image at)
-
-pub refusal : (image : List ℕ) (at n : ℕ) → fromBytes image at ≡ refused n → (2 ≤ n) × (n ≤ 4)
-refusal image at n e = subst (Told image at) e (told image at)

@@ -4,7 +4,7 @@ use mathlib.Core.Path.{_≡_, refl, _∙_, ap, sym}
 use mathlib.Core.Bool.{Bool, true, cond, _&&_}
 use mathlib.Core.List.{List}
 use native.Mathlib.Omega.{arith}
-use lib.Dec.{eqb, leb, lit<}
+use lib.Dec.{eqb, leb}
 use lib.ListN.{length}
 use lib.Seq.{length-slice}
 use borrow.Author.Tests.{eqb-true, leb-true}
@@ -12,7 +12,8 @@ use Rattle.inst.specs.declared.Inst.{Inst}
 use Rattle.inst.specs.Forms.{Form, none, eight, one, name, undefined, formOf, letterOf, formAt}
 use Rattle.inst.specs.Records.{part, nameIn, fits, wellFormed}
 use Rattle.inst.proofs.Laws.{never, and-left, and-right, form-back}
-use Rattle.inst_encode.specs.Encode.{bytesOf, operandBytes, asBytes, headSize, encodedSize}
+use Rattle.inst_encode.specs.Encode.{bytesOf, operandBytes, asBytes}
+use Rattle.inst_encode.proofs.Laws.{headSize, encodedSize}
 
 pub length-bytes : (k n : ℕ) → length (bytesOf k n) ≡ k
 unfolding bytesOf
@@ -22,18 +23,10 @@ length-bytes (suc k) n = ap suc (length-bytes k (n / 256))
 part-length : (image : List ℕ) (start len : ℕ) → start + len ≤ length image → length (part image start len) ≡ len
 part-length image start len h = rw (length-slice start (start + len) image h) (omega arith)
 
-head-some : (f : Form) → 0 < headSize f
-unfolding headSize
-head-some none = lit< tt
-head-some eight = lit< tt
-head-some one = lit< tt
-head-some name = lit< tt
-head-some undefined = lit< tt
-
 -- no encoding is empty
-pub size-some : (i : Inst) → 0 < encodedSize i
-unfolding encodedSize
-size-some i = let h = head-some (formOf (i .typ)) in omega arith
+pub size-some : (image : List ℕ) (i : Inst) → 0 < length (asBytes image i)
+unfolding asBytes
+size-some image i = omega arith
 
 module _ (image : List ℕ) (i : Inst) where
   Sized : Form → Type 0
@@ -63,6 +56,6 @@ module _ (image : List ℕ) (i : Inst) where
   unfolding wellFormed
   formed b n e h = h ∙ ap (fits image i) (ap formAt e ∙ sym (form-back (formOf (i .typ))))
 
-  pub len-is : (n : ℕ) → wellFormed image i ≡ true → n ≡ headSize (formOf (i .typ)) + i .len → n ≡ cond (wellFormed image i) (encodedSize i) 0
+  pub len-is : (n : ℕ) → wellFormed image i ≡ true → n ≡ headSize (formOf (i .typ)) + i .len → n ≡ cond (wellFormed image i) (length (asBytes image i)) 0
   unfolding encodedSize
-  len-is n w e = rw w e
+  len-is n w e = rw w (e ∙ sym (size-is w))

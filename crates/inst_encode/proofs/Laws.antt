@@ -9,7 +9,7 @@ use lib.Seq.{sets}
 use Rattle.inst.specs.declared.Inst.{Inst}
 use Rattle.inst.specs.Forms.{Form, none, eight, one, name, undefined, formOf, letterOf}
 use Rattle.inst.proofs.Laws.{sets-more}
-use Rattle.inst_encode.specs.Encode.{bytesOf, operandBytes, asBytes, headSize}
+use Rattle.inst_encode.specs.Encode.{bytesOf, operandBytes, asBytes}
 
 -- what is left of a number's bytes
 pub bytes-next : (size i n : ℕ) → i < size → bytesOf (size - i) n ≡ n % 256 ∷ bytesOf (size - (i + 1)) (n / 256)
@@ -31,6 +31,17 @@ stored-both l l₁ l₂ vs ws at n e p q = q ∙ rw (p, ← e) (sets-more vs l w
 -- the first byte, then the operand
 pub stored-first : (out out′ bytes ops : List ℕ) (at op : ℕ) → bytes ≡ op ∷ ops → out′ ≡ sets (set out at op) (at + 1) ops → out′ ≡ sets out at bytes
 stored-first out out′ bytes ops at op e p = p ∙ rw (add-one, e)
+
+-- how many bytes a record has: the first byte and the operand without its name, and the name, whose length is 0 where there is none
+unfoldable pub headSize : Form → ℕ
+headSize none = 1
+headSize eight = 9
+headSize one = 2
+headSize name = 9
+headSize undefined = 1
+
+unfoldable pub encodedSize : Inst → ℕ
+encodedSize i = headSize (formOf (i .typ)) + i .len
 
 -- a record's bytes by its form, and what has no operand
 pub bytes-are : (image : List ℕ) (i : Inst) (f : Form) → formOf (i .typ) ≡ f → asBytes image i ≡ i .typ ∷ operandBytes image i f

@@ -1,5 +1,5 @@
 -- Encoding one record (as_bytes), as document 01 has it.
-use Prim.Native.Nat.{ℕ, zero, suc, _+_, _/_, _%_}
+use Prim.Native.Nat.{ℕ, zero, suc, _/_, _%_}
 use mathlib.Core.List.{List, [], _∷_, _++_}
 use Rattle.inst.specs.declared.Inst.{Inst}
 use Rattle.inst.specs.Forms.{Form, none, eight, one, name, undefined, formOf}
@@ -21,14 +21,3 @@ operandBytes image i undefined = []
 -- a well-formed record's bytes: the first byte (IDMP is 27, FDMP 46), then the operand
 unfoldable pub asBytes : List ℕ → Inst → List ℕ
 asBytes image i = i .typ ∷ operandBytes image i (formOf (i .typ))
-
--- how many bytes those are: the first byte and the operand without its name, and the name, whose length is 0 where there is none
-unfoldable pub headSize : Form → ℕ
-headSize none = 1
-headSize eight = 9
-headSize one = 2
-headSize name = 9
-headSize undefined = 1
-
-unfoldable pub encodedSize : Inst → ℕ
-encodedSize i = headSize (formOf (i .typ)) + i .len

@@ -7,7 +7,7 @@ ghost use lib.ListN.{length};
 ghost use lib.Seq.{sets};
 ghost use Rattle.inst.specs.Forms.{formTable};
 ghost use Rattle.inst.specs.Records.{part, wellFormed};
-ghost use Rattle.inst_encode.specs.Encode.{bytesOf, asBytes, encodedSize};
+ghost use Rattle.inst_encode.specs.Encode.{bytesOf, asBytes};
 use inst::EIGHT;
 use inst::Inst;
 use inst::NAME;
@@ -55,11 +55,10 @@ fn put_named(out: &mut [u8], at: usize, image: &[u8], start: u64, len: u64)
     put_name(out, at + 8, &image[from..to]);
 }
 
-// How many bytes a record's encoding has, at most 9 more than its image; 0 for a record that number 34 calls ill. One search
-// for the form serves both. Only the encoder calls it, and lends it the table of forms.
+// How many bytes a record is written in; 0 for one that number 34 calls ill. One search for the form serves both. Only the encoder calls it, and lends it the table of forms.
 pub fn checked_len(forms: &[u8; TABLE_SIZE], image: &[u8], inst: Inst) -> usize
     requires { ⌜ now forms ≡ formTable ⌝ }
-    ensures { λ r. ⌜ r ≡ cond (wellFormed (now (image .entry)) inst) (encodedSize inst) 0 ⌝ }
+    ensures { λ r. ⌜ r ≡ cond (wellFormed (now (image .entry)) inst) (length (asBytes (now (image .entry)) inst)) 0 ⌝ }
 {
     let letter = form(forms, inst.typ);
     if !has_form(image, inst, letter) {

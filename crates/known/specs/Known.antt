@@ -7,7 +7,7 @@ use lib.Dec.{eqb, leb}
 use lib.ListN.{length, getD}
 use Rattle.inst.specs.Records.{wellFormed}
 use Rattle.machine.specs.Lookup.{Program, leadsTo, lookup}
-use Rattle.tables.specs.Tables.{numberAt, inst, instsOf, instOf}
+use Rattle.tables.specs.Tables.{numberAt, instsOf, instOf}
 
 -- so many instructions can be known, from the first on; and the key of one that isn't
 abbrev pub knownLimit : ℕ

@@ -1,5 +1,5 @@
 -- The pass that links, where the label table is lent as records: what a turn of `mm_load_labels` keeps, and what it answers, over plain values. Assumes nothing.
-use Prim.Native.Nat.{ℕ, suc, _*_, _<_, _≤_}
+use Prim.Native.Nat.{ℕ, suc, _<_}
 use mathlib.Core.Path.{_≡_, refl, ap, sym, _∙_}
 use mathlib.Core.Bool.{true, false}
 use mathlib.Core.List.{List, [], _∷_, _++_}
@@ -11,14 +11,13 @@ use lib.Seq.{sets}
 use lib.WfN.{Nat·lt-wfRel}
 use Rattle.inst.proofs.Laws.{sets-more}
 use Rattle.machine.specs.declared.Label.{Label}
-use Rattle.machine.specs.Load.{head, linked, fresh, Load, rejects, accepts, labelsAfter}
+use Rattle.machine.specs.Load.{head, linked, Load, rejects, accepts, labelsAfter}
 use Rattle.tables.specs.Tables.{instsOf}
 use Rattle.tables.proofs.Numbers.{sets-behind}
 use Rattle.loader.specs.declared.Linking.{Linking}
-use Rattle.loader.specs.declared.Loading.{Loading}
-use Rattle.loader.specs.declared.Loading.the-variants.{Refused, Accepted}
-use Rattle.loader.specs.Loading.{Answer, refuses, starts, freshAt, means, answerOf, instsLeft, LoadInsts}
-use Rattle.loader.specs.Linking.{headLink, nextLink}
+use Rattle.loader.specs.declared.Checked.{Checked}
+use Rattle.loader.specs.Loading.{checkedOf, instsLeft, LoadInsts}
+use Rattle.loader.specs.Linking.{headLink, nextLink, Covers}
 use Rattle.loader.proofs.Passing as pass
 use Rattle.loader.proofs.Passing.{linkedOn, left, left-falls}
 use Rattle.label_loader.specs.declared.LoadAnswer.{LoadAnswer}
@@ -48,20 +47,13 @@ label-more (x ∷ xs) ys p (h ∷ ls) z k e =
 abbrev pub call : LoadAnswer → List ℕ → List Label → LoadCall
 call a insts labels = record { number = a .number; ip = a .ip; count = a .count; insts = insts; labels = labels }
 
--- the pointer of the machine of an answer that accepts
-abbrev pointer : Answer → ℕ
-pointer (refuses n) = 0
-pointer (starts m count) = m .ip
-
-loaded-by : (o : Load) (insts : List ℕ) (labels : List Label) (r : Loading) → means r ≡ answerOf o → loadedBy o insts labels ≡ call (numbersOf r) (instsLeft o insts) (labelsAfter o labels)
-unfolding loadedBy means answerOf freshAt fresh instsLeft labelsAfter numbersOf
-loaded-by (rejects k) insts labels (Refused n) e = let d : k ≡ n = cc in rw d
-loaded-by (rejects k) insts labels (Accepted ip count) e = cc
-loaded-by (accepts l) insts labels (Refused n) e = cc
-loaded-by (accepts l) insts labels (Accepted ip count) e = let d : ip ≡ l .ip = ap pointer e in cc
+loaded-by : (o : Load) (insts : List ℕ) (labels : List Label) → loadedBy o insts labels ≡ call (numbersOf (checkedOf o .loading)) (instsLeft o insts) (labelsAfter o labels)
+unfolding loadedBy checkedOf instsLeft labelsAfter numbersOf
+loaded-by (rejects n) insts labels = refl
+loaded-by (accepts l) insts labels = refl
 
 -- the answer r, and the instruction table that was filled
-module _ (image insts₀ : List ℕ) (labels₀ : List Label) (r : Loading) (insts : List ℕ) (f : LoadInsts (loadOf image insts₀ labels₀) insts₀ r insts) where
+module _ (image insts₀ : List ℕ) (labels₀ : List Label) (r : Checked) (insts : List ℕ) (f : LoadInsts (loadOf image insts₀ labels₀) insts₀ r insts) where
   abbrev pub Holds : Linking → List Label → Type 0
   Holds = pass.Underway image insts₀ labels₀ labels₀ (λ ls. ls)
 
@@ -76,7 +68,7 @@ module _ (image insts₀ : List ℕ) (labels₀ : List Label) (r : Loading) (ins
   pub falls : WellFounded Lower
   falls = InvImage·wf (λ (x : State). left (x .p)) (Nat·lt-wfRel .wf)
 
-  abbrev pub begun : (p : Linking) → p ≡ headLink (means r) → State
+  abbrev pub begun : (p : Linking) → p ≡ headLink r → State
   begun p e = record { p = p; labels = labels₀; holds = pass.underway-begins image insts₀ labels₀ labels₀ (λ ls. ls) r (f .answers) p e refl }
 
   module _ (x : State) (on : x .p .on ≡ true) where
@@ -84,8 +76,8 @@ module _ (image insts₀ : List ℕ) (labels₀ : List Label) (r : Loading) (ins
     pub inside : x .p .index < length (x .labels)
     inside = let k = pass.index-inside image insts₀ labels₀ labels₀ (λ ls. ls) (x .p) (x .labels) (x .holds) on in let n = x .holds .labels-long in omega (arith, k, n)
 
-    pub fit : (x .p .count * 32 ≤ length insts) × (x .p .index ≤ x .p .passed)
-    fit = pass.insts-inside image insts₀ labels₀ labels₀ (λ ls. ls) (x .p) (x .labels) (x .holds) on insts (f .insts-are)
+    pub fit : Covers insts (x .p)
+    fit = pass.covers image insts₀ labels₀ labels₀ (λ ls. ls) (x .p) (x .labels) (x .holds) on insts (f .insts-are)
 
     module _ (q : Linking) (e : q ≡ nextLink (x .p) (x .p .passed) (drop (x .p .passed) (take (x .p .count) (instsOf insts)))) where
       pub holds-on : Holds q (linkedAt (x .labels) (x .p))
@@ -105,8 +97,8 @@ module _ (image insts₀ : List ℕ) (labels₀ : List Label) (r : Loading) (ins
   leaves-are (rejects n) = refl
   leaves-are (accepts l) = refl
 
-  pub over : (x : State) → x .p .on ≡ false → (a : LoadAnswer) → a ≡ numbersOf r → loadCall image insts₀ labels₀ ≡ call a insts (x .labels)
+  pub over : (x : State) → x .p .on ≡ false → (a : LoadAnswer) → a ≡ numbersOf (r .loading) → loadCall image insts₀ labels₀ ≡ call a insts (x .labels)
   unfolding loadCall
   over x o a e =
       let k = pass.underway-ends image insts₀ labels₀ labels₀ (λ ls. ls) (x .p) (x .labels) o (x .holds) in
-      rw (e, f .insts-are, k ∙ leaves-are (loadOf image insts₀ labels₀)) (loaded-by (loadOf image insts₀ labels₀) insts₀ labels₀ r (f .answers))
+      rw (e, f .answers, f .insts-are, k ∙ leaves-are (loadOf image insts₀ labels₀)) (loaded-by (loadOf image insts₀ labels₀) insts₀ labels₀)

@@ -2,6 +2,7 @@
 // structs, so the one function that holds it is proved by hand, and kept small: it links, and all else is covered.
 ghost use mathlib.Core.Path.{_≡_};
 ghost use Rattle.label_loader.specs.Loading.{numbersOf, loadCall};
+use loader::Checked;
 use loader::Loading;
 use loader::head_link;
 use loader::load_insts;
@@ -17,9 +18,10 @@ pub struct LoadAnswer {
     pub count: u64,
 }
 
-fn answered(loading: Loading) -> LoadAnswer
-    ensures { λ r. ⌜ r ≡ numbersOf loading ⌝ }
+fn answered(checked: Checked) -> LoadAnswer
+    ensures { λ r. ⌜ r ≡ numbersOf (checked .loading) ⌝ }
 {
+    let loading = checked.loading;
     match loading {
         Loading::Refused(n) => {
             return LoadAnswer {
@@ -44,8 +46,8 @@ fn answered(loading: Loading) -> LoadAnswer
 pub extern "C" fn mm_load_labels(image: &[u8], insts: &mut [u8], labels: &mut [Label]) -> LoadAnswer
     ensures { λ r. ⌜ loadCall (now (image .entry)) (now (insts .entry)) (now (labels .entry)) ≡ record { number = r .number; ip = r .ip; count = r .count; insts = now (insts .exit); labels = now (labels .exit) } ⌝ }
 {
-    let loading = load_insts(image, insts, labels.len());
-    let mut l = head_link(loading);
+    let checked = load_insts(image, insts, labels.len());
+    let mut l = head_link(checked);
     while l.on {
         let head = labels[0];
         labels[l.index] = Label {
@@ -62,5 +64,5 @@ pub extern "C" fn mm_load_labels(image: &[u8], insts: &mut [u8], labels: &mut [L
         };
         l = next_link(insts, l);
     }
-    answered(loading)
+    answered(checked)
 }

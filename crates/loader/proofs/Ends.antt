@@ -8,10 +8,10 @@ use lib.ListN.{length, length-append}
 use borrow.Author.Tests.{lt-ltb, le-ltb}
 use Rattle.inst.specs.declared.Inst.{Inst}
 use Rattle.machine.specs.Limits.{instLimit}
-use Rattle.machine.specs.Load.{halt, Scan, goes, Entry, noEntry, entry, anyNative, lastIsHalt, closed, rejects, checked, entered, finished, fresh}
+use Rattle.machine.specs.Load.{halt, Scan, goes, Entry, noEntry, entry, anyNative, lastIsHalt, closed, rejects, checked, entered, finished}
 use Rattle.loader.specs.declared.Counts.{Counts}
-use Rattle.loader.specs.declared.Loading.the-variants.{Refused, Accepted}
-use Rattle.loader.specs.Loading.{answerOf, freshAt, means}
+use Rattle.loader.specs.declared.Loading.the-variants.{Accepted}
+use Rattle.loader.specs.Loading.{checkedOf}
 use Rattle.loader.specs.Reading.{isFound, pointer, entryOf, countsOf}
 use Rattle.loader.proofs.Scans.{snoc-native}
 
@@ -74,9 +74,13 @@ module _ (image : List ℕ) (c : Counts) (s : Scan) (e : c ≡ countsOf image s)
   unfolding countsOf
   long-is = ap (λ (x : Counts). cond (x .halt) (x .insts) (x .insts + 1)) e ∙ sym (closed-long (s .insts))
 
-  pub no-entry : c .found ≡ false → means (Refused 7) ≡ answerOf (finished image (goes s))
-  unfolding finished answerOf means
-  no-entry h = rw (entered-none s _ (sym found-is ∙ h))
+  labels-is : c .labels ≡ length (s .labels)
+  unfolding countsOf
+  labels-is = ap (λ (x : Counts). x .labels) e
+
+  pub no-entry : c .found ≡ false → rejects 7 ≡ finished image (goes s)
+  unfolding finished
+  no-entry h = sym (entered-none s _ (sym found-is ∙ h))
 
   module _ (h : c .found ≡ true) (count : ℕ) (k : count ≡ cond (c .halt) (c .insts) (c .insts + 1)) where
     there : finished image (goes s) ≡ checked (record { insts = closed (s .insts); labels = s .labels; ip = pointer (entryOf image s) })
@@ -86,14 +90,14 @@ module _ (image : List ℕ) (c : Counts) (s : Scan) (e : c ≡ countsOf image s)
     count-is : count ≡ length (closed (s .insts))
     count-is = k ∙ long-is
 
-    pub too-many : instLimit < count → means (Refused 5) ≡ answerOf (finished image (goes s))
-    unfolding checked answerOf means
+    pub too-many : instLimit < count → rejects 5 ≡ finished image (goes s)
+    unfolding checked
     too-many l = rw there (simp (lt-ltb _ _ (rw count-is at l)))
 
-    pub has-native : count ≤ instLimit → c .native ≡ true → means (Refused 8) ≡ answerOf (finished image (goes s))
-    unfolding checked answerOf means
+    pub has-native : count ≤ instLimit → c .native ≡ true → rejects 8 ≡ finished image (goes s)
+    unfolding checked
     has-native l n = rw there (simp (le-ltb _ _ (rw count-is at l), sym native-is ∙ n))
 
-    pub accepted-there : count ≤ instLimit → c .native ≡ false → means (Accepted (c .ip) count) ≡ answerOf (finished image (goes s))
-    unfolding checked answerOf means freshAt fresh
-    accepted-there l n = rw there (simp (le-ltb _ _ (rw count-is at l), sym native-is ∙ n, ip-is, count-is))
+    pub accepted-there : count ≤ instLimit → c .native ≡ false → record { loading = Accepted (c .ip) count; labels = c .labels } ≡ checkedOf (finished image (goes s))
+    unfolding checked checkedOf
+    accepted-there l n = rw there (simp (le-ltb _ _ (rw count-is at l), sym native-is ∙ n, ip-is, count-is, labels-is))

@@ -1,6 +1,6 @@
 -- The pass that links, where the label table is lent as bytes. Assumes nothing.
 use Prim.Native.Nat.{ℕ, _/_, _≤_, _<_}
-use mathlib.Core.Path.{_≡_, refl, _∙_}
+use mathlib.Core.Path.{_≡_, refl, ap, _∙_}
 use mathlib.Core.Bool.{true, false}
 use mathlib.Core.List.{List}
 use native.Mathlib.Omega.{arith}
@@ -9,9 +9,10 @@ use Rattle.machine.specs.Load.{Load, rejects, accepts}
 use Rattle.tables.specs.Tables.{label, instsOf, labelsOf, numbersOf, bytesOf, labelBytes}
 use Rattle.tables.proofs.Laws.{length-records}
 use Rattle.loader.specs.declared.Linking.{Linking}
-use Rattle.loader.specs.declared.Loading.{Loading}
+use Rattle.loader.specs.declared.Checked.{Checked}
 use Rattle.loader.specs.Loading.{means, instsLeft, labelsLeft, loadOf, LoadInsts, FromBinary}
 use Rattle.loader.specs.Linking.{headLink, nextLink, linkedAt}
+use Rattle.loader.proofs.Loads.{checked-means}
 use Rattle.loader.proofs.Stores.{label-more}
 use Rattle.loader.proofs.Passing as pass
 
@@ -22,7 +23,7 @@ module _ (image insts₀ labels₀ : List ℕ) where
   abbrev pub Underway : Linking → List ℕ → Type 0
   Underway = pass.Underway image insts₀ (labelsOf labels₀) labels₀ labelBytes
 
-  pub underway-begins : (r : Loading) (insts : List ℕ) → LoadInsts given insts₀ r insts → (p : Linking) → p ≡ headLink (means r) → Underway p labels₀
+  pub underway-begins : (r : Checked) (insts : List ℕ) → LoadInsts given insts₀ r insts → (p : Linking) → p ≡ headLink r → Underway p labels₀
   unfolding numbersOf bytesOf
   underway-begins r insts f p e = pass.underway-begins image insts₀ (labelsOf labels₀) labels₀ labelBytes r (f .answers) p e refl
 
@@ -47,7 +48,7 @@ module _ (image insts₀ labels₀ : List ℕ) where
   leaves-are (rejects n) = refl
   leaves-are (accepts l) = refl
 
-  pub underway-ends : (p : Linking) (labels insts : List ℕ) (r : Loading) → p .on ≡ false → Underway p labels → LoadInsts given insts₀ r insts → FromBinary image insts₀ labels₀ r insts labels
+  pub underway-ends : (p : Linking) (labels insts : List ℕ) (r : Checked) → p .on ≡ false → Underway p labels → LoadInsts given insts₀ r insts → FromBinary image insts₀ labels₀ (r .loading) insts labels
   underway-ends p labels insts r o u f =
       let k = pass.underway-ends image insts₀ (labelsOf labels₀) labels₀ labelBytes p labels o u in
-      record { answers = f .answers; insts-are = f .insts-are; labels-are = k ∙ leaves-are given }
+      record { answers = ap (λ (c : Checked). means (c .loading)) (f .answers) ∙ checked-means given; insts-are = f .insts-are; labels-are = k ∙ leaves-are given }

@@ -1,6 +1,6 @@
 -- What the definition of a load says of its answers. Assumes nothing.
 use Prim.Native.Nat.{ℕ, _<_, _≤_}
-use mathlib.Core.Path.{_≡_, refl}
+use mathlib.Core.Path.{_≡_, refl, ap, _∙_}
 use mathlib.Core.Bool.{_||_}
 use mathlib.Core.List.{List}
 use native.Mathlib.Omega.{arith}
@@ -11,9 +11,10 @@ use Rattle.inst.specs.declared.Inst.{Inst}
 use Rattle.inst.proofs.Laws.{by-test, or-left, or-right}
 use Rattle.machine.specs.Limits.{imageLimit, instLimit, labelRecords}
 use Rattle.machine.specs.declared.Label.{Label}
-use Rattle.machine.specs.Load.{Scan, Scanned, stops, goes, begin, Entry, noEntry, entry, anyNative, closed, Loaded, Load, rejects, accepts, checked, entered, finished, loads, load, countOf}
+use Rattle.machine.specs.Load.{Scan, Scanned, stops, goes, begin, Entry, noEntry, entry, anyNative, closed, Loaded, Load, rejects, accepts, checked, entered, finished, loads, load, fresh, countOf}
 use Rattle.loader.specs.declared.Loading.the-variants.{Refused, Accepted}
-use Rattle.loader.specs.Loading.{answerOf, means, instsLeft, Accepts, LoadInsts}
+use Rattle.loader.specs.declared.Checked.{Checked}
+use Rattle.loader.specs.Loading.{replyOf, freshAt, means, checkedOf, instsLeft, Accepts, LoadInsts}
 use Rattle.loader.specs.Reading.{entryOf}
 use Rattle.loader.proofs.Rests.{Rest}
 
@@ -36,23 +37,31 @@ module _ (image : List ℕ) (is : List Inst) (ls : List Label) where
   enough h k = simp (le-ltb _ _ h, le-ltb _ _ k)
 
 -- by the code's answer
-pub refused-load : (n : ℕ) (l : Load) → means (Refused n) ≡ answerOf l → l ≡ rejects n
-unfolding means answerOf
-refused-load n (rejects m) e = cc
-refused-load n (accepts l) e = cc
+pub checked-means : (x : Load) → means (checkedOf x .loading) ≡ replyOf x
+unfolding means replyOf checkedOf freshAt fresh
+checked-means (rejects n) = refl
+checked-means (accepts l) = refl
 
-accepted-at : (ip count : ℕ) (image : List ℕ) (x : Load) → loads image ≡ x → means (Accepted ip count) ≡ answerOf x → Accepts image count
-unfolding means answerOf
+-- a refusal writes nothing
+pub refused-with : (n : ℕ) (x : Load) (r : Checked) (insts : List ℕ) → x ≡ rejects n → r ≡ checkedOf (rejects n) → LoadInsts x insts r insts
+unfolding instsLeft
+refused-with n x r insts e g = rw (e, g) (record { answers = refl; insts-are = refl })
+
+refused-at : (n : ℕ) (x : Load) (insts : List ℕ) → Refused n ≡ checkedOf x .loading → LoadInsts x insts (checkedOf x) insts
+unfolding checkedOf instsLeft
+refused-at n (rejects m) insts e = record { answers = refl; insts-are = refl }
+refused-at n (accepts l) insts e = absurd (let z : _≡_ {A = ℕ} 0 1 = cc in omega arith)
+
+pub refused-there : (n : ℕ) (x : Load) (r : Checked) (insts : List ℕ) → r ≡ checkedOf x → Refused n ≡ r .loading → LoadInsts x insts r insts
+refused-there n x r insts g e = rw g (refused-at n x insts (e ∙ ap (λ (c : Checked). c .loading) g))
+
+accepted-at : (ip count : ℕ) (image : List ℕ) (x : Load) → loads image ≡ x → Accepted ip count ≡ checkedOf x .loading → Accepts image count
+unfolding checkedOf
 accepted-at ip count image (rejects n) g e = absurd (let z : _≡_ {A = ℕ} 0 1 = cc in omega arith)
 accepted-at ip count image (accepts l) g e = record { loaded = l; is = g; count-is = cc }
 
-pub accepted-load : (ip count : ℕ) (image : List ℕ) → means (Accepted ip count) ≡ answerOf (loads image) → Accepts image count
-accepted-load ip count image e = accepted-at ip count image (loads image) refl e
-
--- a refusal writes nothing
-pub refused-there : (x : Load) (n : ℕ) (insts : List ℕ) → x ≡ rejects n → LoadInsts x insts (Refused n) insts
-unfolding means answerOf instsLeft
-refused-there x n insts e = rw e (record { answers = refl; insts-are = refl })
+pub accepted-load : (ip count : ℕ) (image : List ℕ) (r : Checked) → r ≡ checkedOf (loads image) → Accepted ip count ≡ r .loading → Accepts image count
+accepted-load ip count image r g e = accepted-at ip count image (loads image) refl (e ∙ ap (λ (c : Checked). c .loading) g)
 
 -- an accepted scan
 pub record Closed (s : Scan) (l : Loaded) : Type 0 where

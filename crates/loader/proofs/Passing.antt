@@ -1,5 +1,5 @@
 -- What holds during the pass that links the labels of a filled instruction table, whatever the slots of the label table are. Assumes nothing.
-use Prim.Native.Nat.{ℕ, suc, _+_, _*_, _-_, _<_, _≤_}
+use Prim.Native.Nat.{ℕ, suc, _+_, _-_, _<_, _≤_}
 use mathlib.Core.Path.{_≡_, refl, ap, sym, _∙_, subst}
 use mathlib.Core.Bool.{Bool, true, false, cond}
 use mathlib.Core.List.{List, [], _∷_}
@@ -14,9 +14,9 @@ use Rattle.machine.specs.Load.{isLabel, head, linked, Loaded, Load, rejects, ac
 use Rattle.tables.specs.Tables.{inst, instsOf, instBytes}
 use Rattle.tables.proofs.Laws.{length-records, insts-sets}
 use Rattle.loader.specs.declared.Linking.{Linking}
-use Rattle.loader.specs.declared.Loading.{Loading}
-use Rattle.loader.specs.Loading.{answerOf, means, instsLeft}
-use Rattle.loader.specs.Linking.{headLink, labelLink, nextLink}
+use Rattle.loader.specs.declared.Checked.{Checked}
+use Rattle.loader.specs.Loading.{checkedOf, instsLeft}
+use Rattle.loader.specs.Linking.{noLink, headBy, headLink, labelLink, nextLink, Covers}
 use Rattle.loader.proofs.Loads.{AcceptedLoad, load-accepts}
 use Rattle.loader.proofs.Links.{links, links-grow, accepted-linked}
 
@@ -75,6 +75,20 @@ left-falls p q is o e =
     let k = length-take (p .count) is in
     omega (arith, a, b, c, d, k)))
 
+-- no label is left where none comes to the table
+linked-more : (i : Inst) (n : ℕ) (ls : List Label) → 0 < length ls → length ls < length (linked i n ls)
+unfolding linked
+linked-more i n [] z = z
+linked-more i n (h ∷ ls) z = let e = length-append ls (record { start = i .start; len = i .len; target = n; next = h .next } ∷ []) in omega (arith, e)
+
+none-left : (is : List Inst) (n : ℕ) (ls : List Label) (p : Linking) → 0 < length ls → length (links n is ls) ≤ length ls → nextLink p n is ≡ noLink
+unfolding links nextLink
+none-left [] n ls p z h = refl
+none-left (i ∷ is) n ls p z h =
+    by-test (λ q. q ≡ noLink) (isLabel i) _ _
+    (λ e. absurd (let a = linked-more i n ls z in let b = links-grow is (n + 1) (linked i n ls) in omega (arith, a, b, rw e at h)))
+    (λ e. none-left is (n + 1) ls p z (rw e at h))
+
 -- the lent tables; the label table as the definition of a load has it, as it is lent, and the slots that labels take in it
 module _ {B : Type 0} (image insts₀ : List ℕ) (ls₀ : List Label) (labels₀ : List B) (slots : List Label → List B) where
   abbrev given : Load
@@ -97,6 +111,7 @@ module _ {B : Type 0} (image insts₀ : List ℕ) (ls₀ : List Label) (labels�
     pub has-labels : labels ≡ holding before
     pub index-is : p .index ≡ length before
     pub count-is : p .count ≡ countOf loaded
+    pub labels-are : p .labels ≡ length (loaded .labels)
     pub index-low : p .index ≤ p .passed
     pub rest : links (p .passed) (drop (p .passed) (loaded .insts)) (linkedOn p before) ≡ loaded .labels
 
@@ -110,14 +125,14 @@ module _ {B : Type 0} (image insts₀ : List ℕ) (ls₀ : List Label) (labels�
     pub state : State (p .on) p labels
 
   -- as it begins
-  begun : (x : Load) → given ≡ x → labels₀ ≡ holding [] → (p : Linking) → p ≡ headLink (answerOf x) → State (p .on) p labels₀
-  unfolding answerOf headLink State leaves linkedOn
+  begun : (x : Load) → given ≡ x → labels₀ ≡ holding [] → (p : Linking) → p ≡ headLink (checkedOf x) → State (p .on) p labels₀
+  unfolding checkedOf headBy State leaves linkedOn
   begun (rejects n) g e p h = rw h (ap leaves (sym g))
   begun (accepts l) g e p h =
       let k = accepted-linked image l (load-accepts image (instsOf insts₀) ls₀ l g .is) in
-      rw h (record { loaded = l; is = g; before = []; has-labels = e; index-is = refl; count-is = refl; index-low = omega arith; rest = sym (k .labels-are) })
+      rw h (record { loaded = l; is = g; before = []; has-labels = e; index-is = refl; count-is = refl; labels-are = refl; index-low = omega arith; rest = sym (k .labels-are) })
 
-  pub underway-begins : (r : Loading) → means r ≡ answerOf given → (p : Linking) → p ≡ headLink (means r) → labels₀ ≡ holding [] → Underway p labels₀
+  pub underway-begins : (r : Checked) → r ≡ checkedOf given → (p : Linking) → p ≡ headLink r → labels₀ ≡ holding [] → Underway p labels₀
   underway-begins r a p b e = record { labels-long = refl; state = begun given refl e p (b ∙ ap headLink a) }
 
   module _ (p : Linking) (labels : List B) (u : Underway p labels) (on : p .on ≡ true) where
@@ -128,16 +143,25 @@ module _ {B : Type 0} (image insts₀ : List ℕ) (ls₀ : List Label) (labels�
     facts : AcceptedLoad image (instsOf insts₀) ls₀ (at .loaded)
     facts = load-accepts image (instsOf insts₀) ls₀ (at .loaded) (at .is)
 
-    -- there is room for it
+    -- it is one of the labels, and there is room for it
+    index-long : length (linkedOn p (at .before)) ≡ p .index + 1
+    index-long = let a = linked-on-long p (at .before) in let b = at .index-is in omega (arith, a, b)
+
+    one-of : p .index < p .labels
+    one-of =
+        let a = index-long in
+        let b = links-grow (drop (p .passed) (at .loaded .insts)) (p .passed) (linkedOn p (at .before)) in
+        let c = ap length (at .rest) in
+        let d = at .labels-are in
+        omega (arith, a, b, c, d)
+
     pub index-inside : p .index < length ls₀
     index-inside =
         let k = accepted-linked image (at .loaded) (facts .is) .fit in
-        let a = linked-on-long p (at .before) in
-        let b = links-grow (drop (p .passed) (at .loaded .insts)) (p .passed) (linkedOn p (at .before)) in
-        let c = ap length (at .rest) in
-        let d = at .index-is in
+        let a = one-of in
+        let d = at .labels-are in
         let e = facts .labels-room in
-        omega (arith, k, a, b, c, d, e)
+        omega (arith, k, a, d, e)
 
     module _ (insts : List ℕ) (filled : insts ≡ instsLeft given insts₀) where
       stored : insts ≡ sets insts₀ 0 (instBytes (at .loaded .insts))
@@ -147,20 +171,28 @@ module _ {B : Type 0} (image insts₀ : List ℕ) (ls₀ : List Label) (labels�
       room : countOf (at .loaded) ≤ length (instsOf insts₀)
       room = let a = facts .insts-room in let b = facts .count-fits in omega (arith, a, b)
 
-      pub insts-inside : (p .count * 32 ≤ length insts) × (p .index ≤ p .passed)
-      insts-inside =
-          let a = room in
-          let b = at .count-is in
-          let c = length-records inst insts₀ in
-          let d = ap length stored ∙ length-sets insts₀ 0 (instBytes (at .loaded .insts)) in
-          (omega (arith, a, b, c, d), at .index-low)
-
       insts-are : take (p .count) (instsOf insts) ≡ at .loaded .insts
       insts-are =
           ap (λ (n : ℕ). take n (instsOf insts)) (at .count-is)
           ∙ ap (λ (bs : List ℕ). take (countOf (at .loaded)) (instsOf bs)) stored
           ∙ ap (take (countOf (at .loaded))) (insts-sets (at .loaded .insts) insts₀)
           ∙ taken (at .loaded .insts) (instsOf insts₀) room
+
+      pub covers : Covers insts p
+      covers =
+          let a = room in
+          let b = at .count-is in
+          let c = length-records inst insts₀ in
+          let d = ap length stored ∙ length-sets insts₀ 0 (instBytes (at .loaded .insts)) in
+          let f = index-long in
+          let g = ap length (at .rest) in
+          let h = at .labels-are in
+          record {
+            inside = omega (arith, a, b, c, d);
+            index-low = at .index-low;
+            one-of = one-of;
+            all-linked = λ e. rw insts-are (none-left (drop (p .passed) (at .loaded .insts)) (p .passed) (linkedOn p (at .before)) p (omega (arith, f)) (omega (arith, f, g, h, e)));
+          }
 
       -- the label is linked: whatever labels there are, there is one more
       abbrev pub Links : List B → Type 0
@@ -184,6 +216,7 @@ module _ {B : Type 0} (image insts₀ : List ℕ) (ls₀ : List Label) (labels�
                 has-labels = h;
                 index-is = k;
                 count-is = at .count-is;
+                labels-are = at .labels-are;
                 index-low = omega arith;
                 rest = ap (λ (xs : List Inst). links (n + 1) xs (linkedOn (labelLink p n i) ls)) (dropped (at .loaded .insts) n i is e)
                     ∙ ap (links (n + 1) is) (label-on p i n ls (omega arith)) ∙ g′;
@@ -193,9 +226,8 @@ module _ {B : Type 0} (image insts₀ : List ℕ) (ls₀ : List Label) (labels�
       pub underway-on : (q : Linking) (labels′ : List B) → Links labels′ → q ≡ nextLink p (p .passed) (drop (p .passed) (take (p .count) (instsOf insts))) → length labels′ ≡ length labels
           → Underway q labels′
       underway-on q labels′ e f j =
-          let k : p .index + 1 ≡ length (linkedOn p (at .before)) = let a = linked-on-long p (at .before) in let b = at .index-is in omega (arith, a, b) in
           let h = e (at .before) (at .index-is) (at .has-labels) in
-          let s = found labels′ (linkedOn p (at .before)) k h (drop (p .passed) (at .loaded .insts)) (p .passed) refl (at .index-low) (at .rest) in
+          let s = found labels′ (linkedOn p (at .before)) (sym index-long) h (drop (p .passed) (at .loaded .insts)) (p .passed) refl (at .index-low) (at .rest) in
           let z : q ≡ nextLink p (p .passed) (drop (p .passed) (at .loaded .insts)) = f ∙ ap (λ (is : List Inst). nextLink p (p .passed) (drop (p .passed) is)) insts-are in
           record { labels-long = j ∙ u .labels-long; state = subst (λ (y : Linking). State (y .on) y labels′) (sym z) s }
 

@@ -4,9 +4,10 @@ ghost use mathlib.Core.Bool.{cond};
 ghost use mathlib.Core.List.{List};
 ghost use Prim.Native.Nat.{ℕ, _+_, _≤_};
 ghost use Rattle.machine.specs.Limits.{instLimit};
-ghost use Rattle.machine.specs.Load.{Scan, goes, loads, finished};
+ghost use Rattle.machine.specs.Load.{Scan, goes, rejects, loads, finished};
 ghost use Rattle.loader.specs.Reading.{countsOf};
-ghost use Rattle.loader.specs.Loading.{answerOf, means};
+ghost use Rattle.loader.specs.Loading.{checkedOf};
+use crate::Checked;
 use crate::Counts;
 use crate::IMAGE_LIMIT;
 use crate::INST_LIMIT;
@@ -24,24 +25,36 @@ fn closed_count(insts: usize, halt: bool) -> usize
     if halt { insts } else { insts + 1 }
 }
 
+pub fn refused(n: u8) -> Checked
+    ensures { λ r. ⌜ r ≡ checkedOf (rejects n) ⌝ }
+{
+    Checked {
+        loading: Loading::Refused(n),
+        labels: 0,
+    }
+}
+
 // After the last byte: 7; HALT is appended unless the last instruction is HALT, 5 again; 8.
-fn finish(c: Counts) -> Loading
+fn finish(c: Counts) -> Checked
     requires { ⌜ c .insts ≤ instLimit ⌝ }
-    ensures { λ r. ⌜ ((image : List ℕ) (s : Scan) → c ≡ countsOf image s → means r ≡ answerOf (finished image (goes s))) ⌝ }
+    ensures { λ r. ⌜ ((image : List ℕ) (s : Scan) → c ≡ countsOf image s → r ≡ checkedOf (finished image (goes s))) ⌝ }
 {
     if !c.found {
-        return Loading::Refused(7);
+        return refused(7);
     }
     let count = closed_count(c.insts, c.halt);
     if count > INST_LIMIT {
-        return Loading::Refused(5);
+        return refused(5);
     }
     if c.native {
-        return Loading::Refused(8);
+        return refused(8);
     }
-    Loading::Accepted {
-        ip: c.ip,
-        count: count,
+    Checked {
+        loading: Loading::Accepted {
+            ip: c.ip,
+            count: count,
+        },
+        labels: c.labels,
     }
 }
 
@@ -62,11 +75,11 @@ fn anew(c: Counts) -> Counts
 }
 
 // What an image gives, whatever tables are lent.
-pub fn check(image: &[u8]) -> Loading
-    ensures { λ r. ⌜ means r ≡ answerOf (loads (now (image .entry))) ⌝ }
+pub fn check(image: &[u8]) -> Checked
+    ensures { λ r. ⌜ r ≡ checkedOf (loads (now (image .entry))) ⌝ }
 {
     if image.len() > IMAGE_LIMIT {
-        return Loading::Refused(1);
+        return refused(1);
     }
     let forms = form_table();
     let mut c = first();
@@ -74,7 +87,7 @@ pub fn check(image: &[u8]) -> Loading
         let did = next_inst(&forms, image, c);
         match did {
             Next::Refused(n) => {
-                return Loading::Refused(n);
+                return refused(n);
             }
             Next::Read(d) => {
                 c = anew(d);

@@ -11,10 +11,12 @@ ghost use Rattle.machine.specs.Limits.{instLimit};
 ghost use Rattle.machine.specs.Load.{halt, loads, load};
 ghost use Rattle.tables.specs.Tables.{bytesOf, instNumbers, instsOf};
 ghost use Rattle.loader.specs.Loading.{instsLeft, Accepts, LoadInsts};
+use crate::Checked;
 use crate::INST_LIMIT;
 use crate::LABEL_RECORDS;
 use crate::Loading;
 use crate::checking::check;
+use crate::checking::refused;
 use inst::form_table;
 use inst::ops;
 use inst_decode::Decoded;
@@ -55,17 +57,18 @@ fn fill(image: &[u8], insts: &mut [u8], count: usize)
 }
 
 // A load but for its label table, of which `labels` records are lent: the answer, and the instruction table.
-pub fn load_insts(image: &[u8], insts: &mut [u8], labels: usize) -> Loading
+pub fn load_insts(image: &[u8], insts: &mut [u8], labels: usize) -> Checked
     ensures { λ r. ⌜ ((ls : List Label) → length ls ≡ labels → LoadInsts (load (now (image .entry)) (instsOf (now (insts .entry))) ls) (now (insts .entry)) r (now (insts .exit))) ⌝ }
 {
     if insts.len() / RECORD < INST_LIMIT {
-        return Loading::Refused(10);
+        return refused(10);
     }
     if labels < LABEL_RECORDS {
-        return Loading::Refused(10);
+        return refused(10);
     }
     let checked = check(image);
-    let Loading::Accepted { ip: _, count } = checked else {
+    let loading = checked.loading;
+    let Loading::Accepted { ip: _, count } = loading else {
         return checked;
     };
     fill(image, insts, count);

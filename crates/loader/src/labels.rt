@@ -4,8 +4,8 @@ ghost use mathlib.Core.Path.{_≡_};
 ghost use Prim.Native.Nat.{_+_, _*_, _^_, _≤_, _<_};
 ghost use lib.ListN.{length, take, drop};
 ghost use Rattle.tables.specs.Tables.{instsOf};
-ghost use Rattle.loader.specs.Loading.{means};
-ghost use Rattle.loader.specs.Linking.{noLink, headLink, labelLink, nextLink, linkedAt};
+ghost use Rattle.loader.specs.Linking.{noLink, headLink, labelLink, nextLink, Covers, linkedAt};
+use crate::Checked;
 use crate::Linking;
 use crate::Loading;
 use inst::Inst;
@@ -36,13 +36,15 @@ fn no_link() -> Linking
         target: 0,
         passed: 0,
         count: 0,
+        labels: 0,
     }
 }
 
 // The start of the pass: the head, where the load was accepted.
-pub fn head_link(loading: Loading) -> Linking
-    ensures { λ r. ⌜ r ≡ headLink (means loading) ⌝ }
+pub fn head_link(checked: Checked) -> Linking
+    ensures { λ r. ⌜ r ≡ headLink checked ⌝ }
 {
+    let loading = checked.loading;
     let Loading::Accepted { ip: _, count } = loading else {
         return no_link();
     };
@@ -54,6 +56,7 @@ pub fn head_link(loading: Loading) -> Linking
         target: 0,
         passed: 0,
         count: count,
+        labels: checked.labels,
     }
 }
 
@@ -70,14 +73,19 @@ fn label_link(l: Linking, n: usize, i: Inst) -> Linking
         target: n as u64,
         passed: n + 1,
         count: l.count,
+        labels: l.labels,
     }
 }
 
-// The next LABEL of those not yet passed. Only our own crates call it, with the table that was filled.
+// The next LABEL of those not yet passed. Behind the last label record nothing is read. Only our own crates call it, with the
+// table that was filled.
 pub fn next_link(insts: &[u8], l: Linking) -> Linking
-    requires { ⌜ (l .count * 32 ≤ length (now insts)) × (l .index ≤ l .passed) ⌝ }
+    requires { ⌜ Covers (now insts) l ⌝ }
     ensures { λ r. ⌜ r ≡ nextLink l (l .passed) (drop (l .passed) (take (l .count) (instsOf (now (insts .entry))))) ⌝ }
 {
+    if l.index + 1 == l.labels {
+        return no_link();
+    }
     let mut n = l.passed;
     while n < l.count {
         if number_at(insts, n * 4) == ops::LABEL {

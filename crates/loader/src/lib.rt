@@ -26,11 +26,22 @@ pub const INST_LIMIT: usize = 4096;
 
 pub const LABEL_RECORDS: usize = 513;
 
+// The bytes of the shortest tables that a load takes.
+pub const INST_BYTES: usize = INST_LIMIT * RECORD;
+
+pub const LABEL_BYTES: usize = LABEL_RECORDS * RECORD;
+
 // What a load answers: a number, or the pointer and the count. `fresh` makes the machine of the pointer: an enum that holds
 // the machine's arrays can't be proved from its code.
 pub enum Loading {
     Refused(u8),
     Accepted { ip: usize, count: usize },
+}
+
+// The same, and how many label records an image has, the head counted: 0 with a number.
+pub struct Checked {
+    pub loading: Loading,
+    pub labels: usize,
 }
 
 // What is kept of an image that was read so far: the next byte, the instructions, the label records with their head, whether
@@ -51,8 +62,8 @@ pub enum Next {
     Read(Counts),
 }
 
-// Where the linking of the labels stands: whether a label record is to be linked, its index, name and target; and the
-// instructions passed so far, of how many.
+// Where the linking of the labels stands: whether a label record is to be linked, its index, name and target; the
+// instructions passed so far, of how many; and how many label records there are.
 pub struct Linking {
     pub on: bool,
     pub index: usize,
@@ -61,6 +72,7 @@ pub struct Linking {
     pub target: u64,
     pub passed: usize,
     pub count: usize,
+    pub labels: usize,
 }
 
 // The fresh machine: not halted, empty stacks with every slot 0, zero bytes, flags 0.
@@ -83,11 +95,11 @@ pub fn fresh(ip: usize) -> Machine
 pub fn from_binary(image: &[u8], insts: &mut [u8], labels: &mut [u8]) -> Loading
     ensures { λ r. ⌜ FromBinary (now (image .entry)) (now (insts .entry)) (now (labels .entry)) r (now (insts .exit)) (now (labels .exit)) ⌝ }
 {
-    let loading = load_insts(image, insts, labels.len() / RECORD);
-    let mut l = head_link(loading);
+    let checked = load_insts(image, insts, labels.len() / RECORD);
+    let mut l = head_link(checked);
     while l.on {
         link(labels, l);
         l = next_link(insts, l);
     }
-    loading
+    checked.loading
 }

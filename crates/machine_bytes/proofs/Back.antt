@@ -5,7 +5,7 @@ use mathlib.Core.Bool.{Bool, true, false, cond}
 use mathlib.Core.List.{List, [], _∷_, _++_, append-assoc}
 use native.Mathlib.Omega.{arith}
 use lib.Dec.{eqb, ltb}
-use lib.ListN.{length, take, drop, getD, length-append}
+use lib.ListN.{length, take, getD, length-append}
 use lib.Seq.{slice, take-at, drop-at, getD-at}
 use borrow.Author.Tests.{eq-eqb}
 use Rattle.word.specs.Words.{littleEndian, word, eightOf}

@@ -11,7 +11,7 @@ use Rattle.machine.specs.declared.Machine.{Machine}
 use Rattle.machine.specs.Load.{Load, rejects, accepts}
 use Rattle.loader.specs.declared.Loading.{Loading}
 use Rattle.loader.specs.declared.Loading.the-variants.{Refused, Accepted}
-use Rattle.loader.specs.Loading.{FromBinary, means, answerOf, freshAt, instsLeft, labelsLeft}
+use Rattle.loader.specs.Loading.{FromBinary, means, replyOf, freshAt, instsLeft, labelsLeft}
 use Rattle.step_core.specs.declared.Registers.{Registers}
 use Rattle.step_core.specs.Parts.{ofParts}
 use Rattle.run.specs.declared.progress.Progress.{Progress}
@@ -23,15 +23,15 @@ use Rattle.mm_host.specs.Calls.{loadedBy, loadCall, ranBy, ranWith, runC
 
 -- a load that refuses, and one that accepts, whose machine m was written
 module _ (insts labels machine : List ℕ) where
-  refused-by : (o : Load) (n : ℕ) → means (Refused n) ≡ answerOf o →
+  refused-by : (o : Load) (n : ℕ) → means (Refused n) ≡ replyOf o →
       loadedBy o insts labels machine ≡ record { number = n; count = 0; insts = instsLeft o insts; labels = labelsLeft o labels; machine = machine }
-  unfolding loadedBy means answerOf instsLeft labelsLeft
+  unfolding loadedBy means replyOf instsLeft labelsLeft
   refused-by (rejects k) n e = let d : k ≡ n = cc in rw d
   refused-by (accepts l) n e = cc
 
-  accepted-by : (o : Load) (ip count : ℕ) → means (Accepted ip count) ≡ answerOf o →
+  accepted-by : (o : Load) (ip count : ℕ) → means (Accepted ip count) ≡ replyOf o →
       loadedBy o insts labels machine ≡ record { number = 0; count = count; insts = instsLeft o insts; labels = labelsLeft o labels; machine = machineBytes (freshAt ip) }
-  unfolding loadedBy means answerOf instsLeft labelsLeft
+  unfolding loadedBy means replyOf instsLeft labelsLeft
   accepted-by (rejects k) ip count e = cc
   accepted-by (accepts l) ip count e = cc
 

@@ -7,7 +7,7 @@ ghost use Rattle.nan.specs.Cells as cells;
 // bit 63
 const SIGN: u64 = 0x8000000000000000;
 
-// one more than the largest magnitude, which has 48 bits
+// 2^48: a magnitude is below it
 const VALUES: u64 = 0x1000000000000;
 
 pub enum CellType {

@@ -12,7 +12,7 @@ use Rattle.machine.specs.Lookup.{Program}
 use Rattle.machine.specs.Statements.{OneHistory, RunsFrom, loadedProgram}
 use Rattle.machine.proofs.Runs.{runs-are-one-history}
 use Rattle.tables.specs.Tables.{instsOf, labelsOf}
-use Rattle.loader.specs.Loading.{starts, answerOf, freshAt, means, loadOf}
+use Rattle.loader.specs.Loading.{starts, replyOf, freshAt, means, loadOf}
 use Rattle.loader.proofs.Left.{insts-left, labels-left}
 use Rattle.run.specs.declared.Ran.{Ran}
 use Rattle.run.specs.Runs.{answer, runBytes}
@@ -42,9 +42,9 @@ module _ (image : List ℕ) (insts : List Inst) (labels : List Label) (ip count 
       runs-are-one-history image insts labels l bytes e _ _
       (subst (λ (r : Program). RunsFrom r (fresh l) (map request cs) (map result cs)) q (subst (λ (x : Machine). RunsFrom p x (map request cs) (map result cs)) m (from-calls p (freshAt ip) cs h)))
 
-  accepted : (x : Load) → load image insts labels ≡ x → starts (freshAt ip) count ≡ answerOf x → insts′ ≡ instsAfter x insts → labels′ ≡ labelsAfter x labels
+  accepted : (x : Load) → load image insts labels ≡ x → starts (freshAt ip) count ≡ replyOf x → insts′ ≡ instsAfter x insts → labels′ ≡ labelsAfter x labels
       → (cs : List Call) → Called (Runs p) (freshAt ip) cs → OneHistoryOf image x cs
-  unfolding answerOf
+  unfolding replyOf
   accepted (rejects n) e a i j cs h = absurd (let z : _≡_ {A = ℕ} 0 1 = cc in omega arith)
   accepted (accepts l) e a i j cs h = (l, refl, from-loaded l e (cc) (cc) i j cs h)
 

@@ -64,6 +64,6 @@ RecordCallsAreOneHistory =
     → Called (runs.ExecuteProgram image (r .insts) (r .labels) (r .count)) (freshAt (r .ip)) cs
     → OneHistoryOf image (records.loadOf image insts labels) cs
 
-pub record Demand3 : Type 0 where
+pub record CallTheorems : Type 0 where
   pub by-bytes : CallsAreOneHistory
   pub by-records : RecordCallsAreOneHistory

@@ -89,6 +89,6 @@ InPlaceHostCallsAreOneHistory =
     → HostRuns (RanInPlace image (r .insts) (r .labels) (r .count)) (freshAt (r .ip)) cs
     → HostHistory image (records.loadOf image insts labels) (λ x. x) cs
 
-pub record HostDemand3 : Type 0 where
+pub record HostTheorems : Type 0 where
   pub by-bytes : HostCallsAreOneHistory
   pub in-place : InPlaceHostCallsAreOneHistory

@@ -4,9 +4,9 @@ ghost use Rattle.loader.specs.Loading.{FromBinary};
 ghost use Rattle.run.specs.Runs.{ExecuteProgram};
 ghost use mathlib.Core.Path.{_≡_};
 ghost use Rattle.mm_host.specs.Calls.{loadCall};
-ghost use Rattle.one_history.specs.Calls.{Demand3};
+ghost use Rattle.one_history.specs.Calls.{CallTheorems};
 ghost use Rattle.one_history.specs.Host as host;
-ghost use Rattle.one_history.specs.Host.{HostDemand3};
+ghost use Rattle.one_history.specs.Host.{HostTheorems};
 use c_answers::Loaded;
 use c_answers::Ran as HostRan;
 use loader::Loading;
@@ -37,8 +37,8 @@ pub fn run(
 }
 
 // No code: its contract states demand 3 of any list of such calls.
-pub fn demand_3()
-    ensures { λ _. ⌜ Demand3 ⌝ }
+pub fn call_theorems()
+    ensures { λ _. ⌜ CallTheorems ⌝ }
 {}
 
 // A call of mm_load gives what the statement of a host's calls asks of the load.
@@ -65,6 +65,6 @@ pub fn host_run(
 }
 
 // No code: its contract states demand 3 of the calls that a host makes.
-pub fn host_demand_3()
-    ensures { λ _. ⌜ HostDemand3 ⌝ }
+pub fn host_theorems()
+    ensures { λ _. ⌜ HostTheorems ⌝ }
 {}

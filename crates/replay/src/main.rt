@@ -1,5 +1,5 @@
 // A sample of the original's answers (README.md) on standard input: each image is loaded and run step by step, and held to
-// what was recorded. What is read and written is in no contract; what an image comes to is trace's.
+// what was recorded. What is read and written is in no contract; what an image comes to is digests'.
 ghost use Prim.Native.Nat.{_+_, _≤_, _<_};
 ghost use lib.ListN.{length};
 ghost use Rattle.replay.specs.Reading.{Lies, Fits};
@@ -8,14 +8,11 @@ use digests::Replayed;
 use digests::replay_image;
 use libc::STDIN_FILENO;
 use libc::STDOUT_FILENO;
+use loader::INST_BYTES;
+use loader::LABEL_BYTES;
 
 // More bytes than the sample has.
 const INPUT: usize = 262144;
-
-// The bytes of the tables: 4,096 and 513 records.
-const INST_BYTES: usize = 131072;
-
-const LABEL_BYTES: usize = 16416;
 
 // Where a record's parts lie: the image from `image` to `end`, the digests from `digests` to `next`, the next record.
 struct Record {

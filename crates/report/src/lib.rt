@@ -1,5 +1,5 @@
 // The text of the lines that `runimage` prints, put into a lent text from an offset on. Each function returns the offset
-// behind what it wrote. They have a `requires`, that the line fits: only session calls them, and proves it.
+// behind what it wrote. They have a `requires`, that the line fits: only transcript calls them, and proves it.
 ghost use mathlib.Core.List.{_++_};
 ghost use Prim.Native.Nat.{_+_, _*_, _≤_};
 ghost use lib.ListN.{length, take};

@@ -1,13 +1,14 @@
 // `runimage` of document 01: an image on standard input, what its runs print on standard output. What is read and written
-// is in no contract; what is printed of an image is session's.
+// is in no contract; what is printed of an image is transcript's.
 ghost use lib.ListN.{length};
 ghost use Rattle.runimage.specs.Reading.{Fits};
 use libc::STDERR_FILENO;
 use libc::STDIN_FILENO;
 use libc::STDOUT_FILENO;
+use loader::IMAGE_LIMIT;
 
 // One byte more than an image may have: so many bytes are refused 1, as are more.
-const INPUT: usize = 16385;
+const INPUT: usize = IMAGE_LIMIT + 1;
 
 // The bytes that were read, or none: an input that can't be read is no image.
 enum Input {

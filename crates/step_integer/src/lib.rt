@@ -28,7 +28,7 @@ fn both_i64(a: u64, b: u64) -> bool
     if is_i64(a) { is_i64(b) } else { false }
 }
 
-fn is_known(cell: u64) -> bool
+fn type_known(cell: u64) -> bool
     ensures { λ r. ⌜ r ≡ definition.typeKnown cell ⌝ }
 {
     let t = nan::get_type(cell);
@@ -45,8 +45,8 @@ fn is_known(cell: u64) -> bool
 fn type_trap(a: u64, b: u64) -> u8
     ensures { λ r. ⌜ r ≡ typeTrap a b ⌝ }
 {
-    if is_known(a) {
-        if is_known(b) {
+    if type_known(a) {
+        if type_known(b) {
             traps::OPERATION_WITH_DIFFERENT_TYPES
         } else {
             traps::UNKNOWN_TYPE

@@ -5,7 +5,7 @@ use mathlib.Core.List.{List, [], _∷_, _++_}
 use native.Mathlib.Nat.{suc-add}
 use native.Mathlib.Omega.{arith}
 use lib.ListN.{length, getD, set, drop, drop-of-length-le}
-use lib.Seq.{sets, length-sets, drop-set-lt}
+use lib.Seq.{sets, length-sets}
 use Rattle.inst.proofs.Laws.{sets-more}
 use Rattle.word.specs.Words.{numberOf, word, eightOf}
 use Rattle.word.proofs.Laws.{eight-from, number-back}
@@ -156,14 +156,6 @@ number-set bs n v = numbers-sets (v ∷ []) bs n
 
 pub eight-long : (bs : List ℕ) (i v : ℕ) → length (sets bs i (eightOf v)) ≡ length bs
 eight-long bs i v = length-sets bs i (eightOf v)
-
--- what stores leave behind them
-drop-sets : (vs l : List ℕ) (i k : ℕ) → i + length vs ≤ k → drop k (sets l i vs) ≡ drop k l
-drop-sets [] l i k h = refl
-drop-sets (v ∷ vs) l i k h = drop-sets vs (set l i v) (suc i) k (omega arith) ∙ drop-set-lt k l i v (omega arith)
-
-pub drop-eight : (bs : List ℕ) (n v : ℕ) → drop ((n + 1) * 8) (sets bs (n * 8) (eightOf v)) ≡ drop ((n + 1) * 8) bs
-drop-eight bs n v = let e = length-eight v in drop-sets (eightOf v) bs (n * 8) ((n + 1) * 8) (omega arith)
 
 -- the numbers past n
 none-past : (bs : List ℕ) (n : ℕ) → length bs < 8 → numbersIn (drop (suc n * 8) bs) ≡ drop (suc n) (numbersIn bs)

@@ -11,26 +11,26 @@ use Rattle.tables.specs.Tables.{instsOf, labelsOf, program}
 use Rattle.tables.proofs.Laws.{insts-sets, labels-sets}
 use Rattle.loader.specs.declared.Loading.{Loading}
 use Rattle.loader.specs.declared.Loading.the-variants.{Refused, Accepted}
-use Rattle.loader.specs.Loading.{refuses, starts, answerOf, freshAt, means, instsLeft, labelsLeft, loadOf, FromBinary}
+use Rattle.loader.specs.Loading.{refuses, starts, replyOf, freshAt, means, instsLeft, labelsLeft, loadOf, FromBinary}
 use Rattle.report.specs.Text.{refusedLine, Put}
 use Rattle.transcript.specs.Transcript.{inAll, report, stepsInAll, dumpRoom, printedOf, printedWith}
 
 module _ (image insts labels : List ℕ) where
   refused-prints : (insts′ labels′ : List ℕ) (n : ℕ) → FromBinary image insts labels (Refused n) insts′ labels′ → printedWith image insts labels ≡ refusedLine n
-  unfolding means answerOf printedOf
+  unfolding means replyOf printedOf
   refused-prints insts′ labels′ n f = by-load (loadOf image insts labels) (f .answers)
     where
-      by-load : (l : Load) → refuses n ≡ answerOf l → printedOf image (instsOf insts) (labelsOf labels) l ≡ refusedLine n
+      by-load : (l : Load) → refuses n ≡ replyOf l → printedOf image (instsOf insts) (labelsOf labels) l ≡ refusedLine n
       by-load (rejects k) e = let h : n ≡ k = cc in ap refusedLine (sym h)
       by-load (accepts l) e = let z : _≡_ {A = ℕ} 0 1 = cc in absurd (omega arith)
 
   -- the tables as they were left are those of the definition
   accepted-prints : (insts′ labels′ : List ℕ) (ip count : ℕ) → FromBinary image insts labels (Accepted ip count) insts′ labels′
       → printedWith image insts labels ≡ report (inAll stepsInAll (program image insts′ labels′ count) dumpRoom stepsInAll (freshAt ip))
-  unfolding means answerOf printedOf instsLeft labelsLeft loadedProgram instsAfter labelsAfter
+  unfolding means replyOf printedOf instsLeft labelsLeft loadedProgram instsAfter labelsAfter
   accepted-prints insts′ labels′ ip count f = by-load (loadOf image insts labels) (f .answers) (f .insts-are) (f .labels-are)
     where
-      by-load : (l : Load) → starts (freshAt ip) count ≡ answerOf l → insts′ ≡ instsLeft l insts → labels′ ≡ labelsLeft l labels
+      by-load : (l : Load) → starts (freshAt ip) count ≡ replyOf l → insts′ ≡ instsLeft l insts → labels′ ≡ labelsLeft l labels
           → printedOf image (instsOf insts) (labelsOf labels) l ≡ report (inAll stepsInAll (program image insts′ labels′ count) dumpRoom stepsInAll (freshAt ip))
       by-load (rejects k) e i j = let z : _≡_ {A = ℕ} 0 1 = cc in absurd (omega arith)
       by-load (accepts l) e i j =

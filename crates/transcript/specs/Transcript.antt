@@ -1,5 +1,5 @@
 -- What `runimage` does with an image, as document 01 has it: the load, 10,000 steps in all, and what is printed.
-use Prim.Native.Nat.{ℕ, zero, suc, _+_, _-_}
+use Prim.Native.Nat.{ℕ, zero, suc, _+_, _*_, _-_}
 use mathlib.Core.Bool.{Bool, true, false}
 use mathlib.Core.List.{List, _++_}
 use lib.Dec.{eqb}
@@ -9,6 +9,7 @@ use Rattle.machine.specs.declared.Machine.{Machine}
 use Rattle.machine.specs.declared.Label.{Label}
 use Rattle.machine.specs.declared.Ending.{Ending}
 use Rattle.machine.specs.declared.Ending.the-variants.{Halted, Limit, Number}
+use Rattle.machine.specs.Limits.{instLimit, labelRecords}
 use Rattle.machine.specs.Load.{Load, rejects, accepts, load, fresh}
 use Rattle.machine.specs.Lookup.{Program}
 use Rattle.machine.specs.Change.{callHeight}
@@ -50,12 +51,12 @@ stepsInAll = 10000
 abbrev pub dumpRoom : ℕ
 dumpRoom = 64
 
--- the tables that it lends: 4,096 and 513 records of 32 bytes, all 0
+-- the tables that it lends, as short as a load takes them: records of 32 bytes, all 0
 abbrev pub emptyInsts : List ℕ
-emptyInsts = replicate 131072 0
+emptyInsts = replicate (instLimit * 32) 0
 
 abbrev pub emptyLabels : List ℕ
-emptyLabels = replicate 16416 0
+emptyLabels = replicate (labelRecords * 32) 0
 
 -- a text of its own: room for a line of each cell and for the last line, all 0
 abbrev pub textSize : ℕ

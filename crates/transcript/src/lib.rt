@@ -4,6 +4,8 @@ ghost use Rattle.tables.specs.Tables.{program};
 ghost use Rattle.report.specs.Text.{Put};
 ghost use Rattle.transcript.specs.Transcript.{isFull, inAll, report, stepsInAll, dumpRoom, blankText, printed};
 ghost use Rattle.transcript.specs.Theorems.{BufferUnseen};
+use loader::INST_BYTES;
+use loader::LABEL_BYTES;
 use loader::Loading;
 use loader::fresh;
 use loader::from_binary;
@@ -22,11 +24,6 @@ pub const TEXT: usize = 170131;
 
 // The bytes of the dump buffer, 64 cells.
 const ROOM: usize = 512;
-
-// The bytes of its tables: 4,096 and 513 records.
-const INST_BYTES: usize = 131072;
-
-const LABEL_BYTES: usize = 16416;
 
 // No code: its contract states the theorem on the definitions.
 pub fn transcript_theorems()

@@ -41,7 +41,7 @@ inst-at-requires c κs =
 returns-2 : tie.Need-returns-2 Inv-loop μ-loop
 unfolding means
 returns-2 c out e =
-    let w = ill-len _ _ _ (c .before .checked-len .ensures) (size-some (c .before .before .inst-at .result)) (c .if2 .taken) in
+    let w = ill-len _ _ _ (c .before .checked-len .ensures) (size-some _ _) (c .if2 .taken) in
     sym (checked-ill _ _ _ _ _ _ (c .before .before .before .before .loop .inv) _ out (c .before .before .before .loop-test .taken) (c .before .before .inst-at .ensures) w)
 
 loop-again : tie.Need-loop-again Inv-loop μ-loop

@@ -3,9 +3,8 @@ use mathlib.Core.Path.{sym, _∙_}
 use mathlib.Core.List.{[]}
 use native.Mathlib.Omega.{arith}
 use borrow.Author.Tests.{not-true, not-false}
-use Rattle.inst_encode.specs.Encode.{headSize, encodedSize}
 use Rattle.inst.proofs.Laws.{is-form}
-use Rattle.inst_encode.proofs.Laws.{no-operand}
+use Rattle.inst_encode.proofs.Laws.{headSize, encodedSize, no-operand}
 use Rattle.inst_encode.proofs.Facts.{size-below, formed, len-is}
 use borrow.Author.Needs.{needs}
 use Rattle.inst_encode.proofs.checked_len.Statement.{statement}

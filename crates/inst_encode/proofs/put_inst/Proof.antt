@@ -5,9 +5,9 @@ use native.Mathlib.Omega.{arith}
 use lib.ListN.{length, length-set}
 use lib.Seq.{length-sets}
 use Rattle.inst.specs.Forms.{eight, one, name}
-use Rattle.inst_encode.specs.Encode.{bytesOf, operandBytes, asBytes, headSize, encodedSize}
+use Rattle.inst_encode.specs.Encode.{bytesOf, operandBytes, asBytes}
 use Rattle.inst.proofs.Laws.{is-form}
-use Rattle.inst_encode.proofs.Laws.{bytes-are, no-operand, stored-first}
+use Rattle.inst_encode.proofs.Laws.{headSize, encodedSize, bytes-are, no-operand, stored-first}
 use Rattle.inst.proofs.Facts.{typ-byte, name-inside}
 use Rattle.inst_encode.proofs.Facts.{size-is}
 use borrow.Author.Needs.{needs}

@@ -6,7 +6,7 @@
 --     1       image                                  11      the pointer of labels[0], to read it
 --     2       insts                                  12      a record that was read, or is to be stored
 --     3       labels                                 13, 14  the place of labels[l.index], in bytes from the table's start, and its pointer
---     4       loading                                15      l.index, as a record has it
+--     4       checked                                15      l.index, as a record has it
 --     5       l                                      16      the pointer of labels[0], to write it
 --     6       head                                   17, 18  *insts, its pointer, and lent shared
 --     7, 8    *insts, its pointer, and lent again
@@ -15,7 +15,7 @@
 -- Parameters have the lifetimes κ₀ image, κ₁ insts, κ₂ labels, with the shares q of their tokens. In the context stand the things that are owned, and behind them the locals, the last one first,
 -- each a cell and its end: a line [..] says which things these are, and `at n k` is local k behind n of them.
 use mathlib.Core.Path.{_≡_, refl, sym, subst}
-use Prim.Native.Nat.{ℕ, _<_, _≤_, _^_, _*_}
+use Prim.Native.Nat.{ℕ, _<_, _^_, _*_}
 use native.Mathlib.Nat.{zero-add}
 use native.Mathlib.Omega.{arith}
 use mathlib.Core.List.{List, [], _∷_}
@@ -48,9 +48,8 @@ use denote.Slice.{sliceTy, sliceVal, ShrSlice, MutSlice, Room, at-slice, slice-v
 use denote.Index.{place-is, elem-out, elem-back, elem-put, opens-slice, closes-slice}
 use denote.Signature.{plain}
 use denote.Builtin.{u8, usize}
-use denote.Steps.{owned, nothing}
+use denote.Steps.{nothing}
 use denote.Struct.Laws as LL
-use denote.Enum.Laws as EL
 use denote.Triple.Statement.{Contract, Triple}
 use denote.Triple.Call.{calls-at, calls-at-last}
 use denote.Triple.Clauses.{lasts}
@@ -65,13 +64,13 @@ use Rattle.machine.proofs.Label as T′
 use Rattle.machine.proofs.Label.Laws as T″
 use Rattle.tables.specs.Tables.{instsOf}
 use Rattle.loader.specs.declared.Linking.{Linking}
-use Rattle.loader.specs.declared.Loading.{Loading}
-use Rattle.loader.specs.Loading.{means, LoadInsts}
-use Rattle.loader.specs.Linking.{headLink, nextLink}
+use Rattle.loader.specs.declared.Checked.{Checked}
+use Rattle.loader.specs.Loading.{LoadInsts}
+use Rattle.loader.specs.Linking.{headLink, nextLink, Covers}
 use Rattle.loader.proofs.Linking as Li
 use Rattle.loader.proofs.Linking.Laws as Li′
-use Rattle.loader.proofs.Loading as Lo
-use Rattle.loader.proofs.Loading.Laws as Lo′
+use Rattle.loader.proofs.Checked as Ch
+use Rattle.loader.proofs.Checked.Laws as Ch′
 use Rattle.loader.proofs.load_insts as load-insts
 use Rattle.loader.proofs.load_insts.Symbol as load-insts-def
 use Rattle.loader.proofs.load_insts.Symbol.{name as #loader·load-insts}
@@ -110,11 +109,11 @@ abbrev stayed : Stays (call.ended .signature .params) (call.ended .kept)
 stayed = (stay-none-slice (0 ∷ []) tt (plain (λ _. u8)) yes, (stay-slice (1 ∷ []) tt (plain (λ _. u8)), (stay-slice (2 ∷ []) tt (plain (λ _. T′.the-row)), tt)))
 
 -- each struct as it lies in memory, and that it fits there
-abbrev loading-val : Loading → Val
-loading-val r = EL.val Lo.the-type Lo′.the-laws r
+abbrev checked-val : Checked → Val
+checked-val r = LL.val Ch.the-type Ch′.the-laws r
 
-abbrev LoadingIs : Loading → Type 0
-LoadingIs r = Is Lo.the-row r (loading-val r ∷ [])
+abbrev CheckedIs : Checked → Type 0
+CheckedIs r = Is Ch.the-row r (checked-val r ∷ [])
 
 abbrev linking-val : Linking → Val
 linking-val p = LL.val Li.the-type Li′.the-laws p
@@ -266,21 +265,21 @@ module _ {M : Type 1} (𝓤 : URA M) (H : Heap 𝓤) (A : Atoms 𝓤) (W : Given
       nothing ! $ move ! (4 ∷ 0 ∷ []) $ join ! $ move ! (3 ∷ 0 ∷ []) $ join ! $
       use2 W (raw (LoadI 𝓤 H A mem run .pre (to-load ν δ))) (qed W (Tokens-load ν ∷ ‵ (owns (ShrSlice (named 0) κ₀ u8 ∷ MutSlice (named 1) (ν ∷ []) u8 ∷ usize ∷ []) (args-load δ) sent-load) ∷ []) ∵ join ! $ frame ! $ done !) $ frame ! $ done !
 
-  abbrev Loaded : Loading → List ℕ → Type 0
+  abbrev Loaded : Checked → List ℕ → Type 0
   Loaded r d = (ls : List Label) → length ls ≡ length ys → LoadInsts (loadOf (im .now) is ls) is r d
 
   -- ---- the calls of `head_link` and of `answered`
-  abbrev to-head : Loading → Head 𝓤 H A mem run .Ghost
-  to-head r = ((tt, tt, tt, (r, tt), (loading-val r ∷ [], tt)), tt)
+  abbrev to-head : Checked → Head 𝓤 H A mem run .Ghost
+  to-head r = ((tt, tt, tt, (r, tt), (checked-val r ∷ [], tt)), tt)
 
-  goes-head : (r : Loading) → LoadingIs r → ent 𝓤 (emp 𝓤) (Head 𝓤 H A mem run .pre (to-head r))
-  goes-head r isr = qed W [] ∵ nothing ! $ owned ! Lo.the-row (Is Lo.the-row) (EL.makes Lo.the-type Lo′.the-plain 𝓤 H A) r _ isr $ fjoin ! $ nothing ! $ join ! $ frame ! $ done !
+  goes-head : (r : Checked) → CheckedIs r → ent 𝓤 (emp 𝓤) (Head 𝓤 H A mem run .pre (to-head r))
+  goes-head r isr = qed W [] ∵ nothing ! $ made ! Ch.the-type Ch′.the-plain r _ isr $ fjoin ! $ nothing ! $ join ! $ frame ! $ done !
 
-  abbrev to-answer : Loading → Answer 𝓤 H A mem run .Ghost
-  to-answer r = ((tt, tt, tt, (r, tt), (loading-val r ∷ [], tt)), tt)
+  abbrev to-answer : Checked → Answer 𝓤 H A mem run .Ghost
+  to-answer r = ((tt, tt, tt, (r, tt), (checked-val r ∷ [], tt)), tt)
 
-  goes-answer : (r : Loading) → LoadingIs r → ent 𝓤 (emp 𝓤) (Answer 𝓤 H A mem run .pre (to-answer r))
-  goes-answer r isr = qed W [] ∵ nothing ! $ owned ! Lo.the-row (Is Lo.the-row) (EL.makes Lo.the-type Lo′.the-plain 𝓤 H A) r _ isr $ fjoin ! $ nothing ! $ join ! $ frame ! $ done !
+  goes-answer : (r : Checked) → CheckedIs r → ent 𝓤 (emp 𝓤) (Answer 𝓤 H A mem run .pre (to-answer r))
+  goes-answer r isr = qed W [] ∵ nothing ! $ made ! Ch.the-type Ch′.the-plain r _ isr $ fjoin ! $ nothing ! $ join ! $ frame ! $ done !
 
   -- ---- the call of `next_link`, for the lifetime ν, under the name δ
   abbrev args-next : GName → List ℕ → Linking → RefT (List ℕ) × (Linking × Unit {0})
@@ -289,7 +288,7 @@ module _ {M : Type 1} (𝓤 : URA M) (H : Heap 𝓤) (A : Atoms 𝓤) (W : Given
   abbrev to-next : ℕ → GName → List ℕ → Linking → Next 𝓤 H A mem run .Ghost
   to-next ν δ d p = (((ν ∷ [], tt), (fullShare, tt), tt, args-next δ d p, (iv d ∷ [], (linking-val p ∷ [], tt))), tt)
 
-  goes-next : (ν : ℕ) (δ : GName) (d : List ℕ) (p : Linking) → LinkingIs p → (p .count * 32 ≤ length d) × (p .index ≤ p .passed)
+  goes-next : (ν : ℕ) (δ : GName) (d : List ℕ) (p : Linking) → LinkingIs p → Covers d p
       → ent 𝓤 (sep 𝓤 (A .lft (ν ∷ []) fullShare) (sem 𝓤 H A (ShrSlice (named 0) (ν ∷ []) u8 .own (xi δ d) (iv d ∷ [])))) (Next 𝓤 H A mem run .pre (to-next ν δ d p))
   goes-next ν δ d p isp fits =
       qed W (‵ (flft (ν ∷ []) fullShare) ∷ ‵ (ShrSlice (named 0) (ν ∷ []) u8 .own (xi δ d) (iv d ∷ [])) ∷ []) ∵ says ! fits $ nothing ! $ move ! (1 ∷ 0 ∷ []) $ join ! $ frame ! $
@@ -313,16 +312,16 @@ module _ {M : Type 1} (𝓤 : URA M) (H : Heap 𝓤) (A : Atoms 𝓤) (W : Given
     passing = empty T″.mir l₆ ∷ empty lent l₇ ∷ empty (sliceTy lent) l₈ ∷ empty word l₉ ∷ empty tyBool l₁₀ ∷ empty tyPtr l₁₁ ∷ empty T″.mir l₁₂ ∷ empty word l₁₃ ∷ empty tyPtr l₁₄ ∷ empty word l₁₅ ∷ empty tyPtr l₁₆ ∷ empty lent-shared l₁₇ ∷ empty (sliceTy lent-shared) l₁₈ ∷ []
 
     abbrev first-locals : List Slot
-    first-locals = parameters is ys (empty Lo′.mir l₄ ∷ empty Li′.mir l₅ ∷ passing)
+    first-locals = parameters is ys (empty Ch′.mir l₄ ∷ empty Li′.mir l₅ ∷ passing)
 
-    abbrev turn-locals : Loading → List ℕ → Linking → List Label → List Slot
-    turn-locals r d p zs = parameters d zs (holds Lo′.mir l₄ (loading-val r) ∷ holds Li′.mir l₅ (linking-val p) ∷ passing)
+    abbrev turn-locals : Checked → List ℕ → Linking → List Label → List Slot
+    turn-locals r d p zs = parameters d zs (holds Ch′.mir l₄ (checked-val r) ∷ holds Li′.mir l₅ (linking-val p) ∷ passing)
 
     abbrev E : Env 𝓤 H
     E = env first-locals
 
     -- the answer r, and the filled instruction table d
-    module _ (r : Loading) (isr : LoadingIs r) (d : List ℕ) (ld : length d ≡ length is) (f : LoadInsts (loadOf (im .now) is ys) is r d) where
+    module _ (r : Checked) (isr : CheckedIs r) (d : List ℕ) (ld : length d ≡ length is) (f : LoadInsts (loadOf (im .now) is ys) is r d) where
       -- where a turn begins: the pass that links, and that its numbers fit
       record Turn : Type 0 where
         now-at : State (im .now) is ys r d f
@@ -401,10 +400,10 @@ module _ {M : Type 1} (𝓤 : URA M) (H : Heap 𝓤) (A : Atoms 𝓤) (W : Given
           land-last ! (from ! (stop !)) (store ! (at 6 5) refl (LL.lawful Li.the-type Li′.the-laws 𝓤 H A W .typed q _ isq .0)) $ forget ! (at 6 18) refl $ forget ! (at 6 17) refl $
           again ! Low I t (record { now-at = onward (im .now) is ys r d f (t .now-at) on q found; fits = isq }) (lower (im .now) is ys r d f (t .now-at) on q found)))))))))
           (λ h. exec ! C Λ E body.t-7 (atRet E Post) $
-          -- answered(loading)
+          -- answered(checked)
           use0 W (raw (Answer 𝓤 H A mem run .pre (to-answer r))) (goes-answer r isr) $
           calls-at ! (fmOf 𝓤 H (W .laws) 𝓣) (Answer 𝓤 H A mem run) (knows .answered-by) (to-answer r) (and-then ! (local ! (at 7 4) refl) (no-more !)) (λ u.
-          replies ! An.the-row (LL.vals An.the-type An′.the-laws) (LL.tells An.the-type An′.the-laws) u (‵ ftrue) (lasts answered.ended tt (r, tt)) (λ x ws. x ≡ numbersOf r) (id⊢ 𝓤 _) (λ x _ e isx.
+          replies ! An.the-row (LL.vals An.the-type An′.the-laws) (LL.tells An.the-type An′.the-laws) u (‵ ftrue) (lasts answered.ended tt (r, tt)) (λ x ws. x ≡ numbersOf (r .loading)) (id⊢ 𝓤 _) (λ x _ e isx.
           keeps ! (init ! (at 7 0) refl (LL.lawful An.the-type An′.the-laws 𝓤 H A W .typed x _ isx .0)) $ drop ! $
           -- the locals 0 to 5 and 10 hold values
           returns ! (look ! (at 6 0) refl) $ move ! (behind 6 18) $ full1 ! $ full1 ! $ full1 ! $ full1 ! $ full1 ! $ full1 ! $ free1 ! $ free1 ! $ free1 ! $ free1 ! $ full1 ! $ free1 ! $ free1 ! $ free1 ! $ free1 ! $ free1 ! $ free1 ! $ free1 ! $ free1 ! $ free0 ! $
@@ -416,7 +415,7 @@ module _ {M : Type 1} (𝓤 : URA M) (H : Heap 𝓤) (A : Atoms 𝓤) (W : Given
     -- from the first statement to the loop
     begins : Sq W (held is ys (locals first-locals)) (runs C Λ E body.t-1 (atRet E Post))
     begins =
-        -- [the instructions; κ₁; the labels; κ₂; the image; κ₀]: let loading = load_insts(image, insts, labels.len())
+        -- [the instructions; κ₁; the labels; κ₂; the image; κ₀]: let checked = load_insts(image, insts, labels.len())
         lets ! (pointer ! (at 6 2) refl refl refl refl) (init ! (at 6 7) refl (tt, tt)) $
         lets ! (agg ! (and-then ! (local ! (at 6 7) refl) (and-then ! (part ! (at 6 2) refl refl refl) (no-more !)))) (init ! (at 6 8) refl (tt, (tt, (record { fits = gi .0 }, tt)))) $
         lets ! (of-opd ! (part ! (at 6 3) refl refl refl)) (init ! (at 6 9) refl (tt, record { fits = gl .0 })) $
@@ -425,18 +424,18 @@ module _ {M : Type 1} (𝓤 : URA M) (H : Heap 𝓤) (A : Atoms 𝓤) (W : Given
         move ! (6 ∷ 5 ∷ 2 ∷ 0 ∷ []) $ cut (From-load ν δ) (To-load ν δ) _ (goes-load ν δ (gl .0)) $
         -- [what the call asks; the image; what was lent; the labels; κ₂]
         calls-at ! (fmOf 𝓤 H (W .laws) 𝓣) (LoadI 𝓤 H A mem run) (knows .loads) (to-load ν δ) (and-then ! (local ! (at 5 1) refl) (and-then ! (local ! (at 5 8) refl) (and-then ! (local ! (at 5 9) refl) (no-more !)))) (λ v.
-        answers ! Lo.the-row (EL.vals Lo.the-type Lo′.the-laws) (EL.tells Lo.the-type Lo′.the-laws) v (Tokens-load ν) (lasts load-insts.ended (κ₀, (ν ∷ [], tt)) (args-load δ)) (λ r ws. Loaded r (ws .1 .0)) (id⊢ 𝓤 _) (λ r ws loaded isr.
+        answers ! Ch.the-row (LL.vals Ch.the-type Ch′.the-laws) (LL.tells Ch.the-type Ch′.the-laws) v (Tokens-load ν) (lasts load-insts.ended (κ₀, (ν ∷ [], tt)) (args-load δ)) (λ r ws. Loaded r (ws .1 .0)) (id⊢ 𝓤 _) (λ r ws loaded isr.
         let d : List ℕ = ws .1 .0 in
         -- [the tokens; the last values; the image; what was lent; the labels; κ₂]: ν ends
-        keeps ! (init ! (at 6 4) refl (EL.lawful Lo.the-type Lo′.the-laws 𝓤 H A W tt .typed r _ isr .0)) $
+        keeps ! (init ! (at 6 4) refl (LL.lawful Ch.the-type Ch′.the-laws 𝓤 H A W .typed r _ isr .0)) $
         move ! (1 ∷ []) $ past ! $ aside ! $ drop ! $ aside ! $ feqL ! (λ ld. move ! (1 ∷ []) $ taken ! $ split ! $ lft-end ! tt $ move ! (0 ∷ 5 ∷ 3 ∷ []) $
         use3 W (later (‵ (Insts d (iv is)) ⊛ ‵ (flft κ₁ q₁))) (comes-back u8 κ₁ (ν ∷ []) q₁ γ b o 𝓤 H A W (named 1) (named 1) is δ d gi ld) $ await ! tt $ split ! $ move ! (2 ∷ []) $ drop ! $ move ! (0 ∷ 1 ∷ 4 ∷ 5 ∷ 3 ∷ 2 ∷ []) $
         rewrite ! 0 (λ (n : ℕ). ‵ (Insts d (sliceVal (b, o) n))) (sym ld) refl $ rewrite ! (at 6 2) (λ (n : ℕ). ‵ (fat fullShare words l₂ 0 (sliceVal (b, o) n))) (sym ld) refl $
         forget ! (at 6 9) refl $ forget ! (at 6 8) refl $ forget ! (at 6 7) refl $
-        -- let mut l = head_link(loading)
+        -- let mut l = head_link(checked)
         use0 W (raw (Head 𝓤 H A mem run .pre (to-head r))) (goes-head r isr) $
         calls-at ! (fmOf 𝓤 H (W .laws) 𝓣) (Head 𝓤 H A mem run) (knows .heads) (to-head r) (and-then ! (local ! (at 7 4) refl) (no-more !)) (λ u.
-        replies ! Li.the-row (LL.vals Li.the-type Li′.the-laws) (LL.tells Li.the-type Li′.the-laws) u (‵ ftrue) (lasts head-link.ended tt (r, tt)) (λ p ws. p ≡ headLink (means r)) (id⊢ 𝓤 _) (λ p _ e isp.
+        replies ! Li.the-row (LL.vals Li.the-type Li′.the-laws) (LL.tells Li.the-type Li′.the-laws) u (‵ ftrue) (lasts head-link.ended tt (r, tt)) (λ p ws. p ≡ headLink r) (id⊢ 𝓤 _) (λ p _ e isp.
         keeps ! (init ! (at 7 5) refl (LL.lawful Li.the-type Li′.the-laws 𝓤 H A W .typed p _ isp .0)) $ drop ! $ first ! $
         turns r isr d ld (loaded ys refl) (record { now-at = begun (im .now) is ys r d (loaded ys refl) p e; fits = isp }))))))))
 

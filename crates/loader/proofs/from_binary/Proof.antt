@@ -6,16 +6,16 @@ use borrow.Author.Needs.{needs}
 use Rattle.tables.specs.Tables.{label, labelsOf}
 use Rattle.tables.proofs.Laws.{length-records}
 use Rattle.loader.specs.Loading.{loadOf, LoadInsts}
-use Rattle.loader.proofs.Passing.{left, left-falls, insts-inside}
+use Rattle.loader.proofs.Passing.{left, left-falls, covers}
 use Rattle.loader.proofs.LentBytes.{Underway, underway-begins, index-inside, underway-on, underway-ends}
 use Rattle.loader.proofs.from_binary.Statement.{statement}
 use Rattle.loader.proofs.from_binary.Tie as tie
 
 abbrev Inv-loop : tie.InvT-loop
-Inv-loop image insts labels₀ loading l₀ labels l = (insts₀ : List ℕ) → LoadInsts (loadOf image insts₀ labels₀) insts₀ loading insts → Underway image insts₀ labels₀ l labels
+Inv-loop image insts labels₀ checked l₀ labels l = (insts₀ : List ℕ) → LoadInsts (loadOf image insts₀ labels₀) insts₀ checked insts → Underway image insts₀ labels₀ l labels
 
 abbrev μ-loop : tie.MeasureT-loop
-μ-loop image insts labels₀ loading l₀ labels l = left l
+μ-loop image insts labels₀ checked l₀ labels l = left l
 
 loop-holds : tie.Need-loop-holds Inv-loop μ-loop
 loop-holds c insts₀ f = underway-begins _ _ _ _ _ f _ (c .head-link .ensures)
@@ -29,7 +29,7 @@ link-requires c κs =
 next-link-requires : tie.Need-next-link-requires Inv-loop μ-loop
 next-link-requires c κs =
     let f = c .before .before .before .before .before .before .before .before .before .before .load-insts .ensures (labelsOf _) (length-records label _) in
-    insts-inside _ _ _ _ _ _ _ (c .before .before .before .before .before .before .loop .inv _ f) (c .before .before .before .before .before .loop-test .taken) _ (f .insts-are)
+    covers _ _ _ _ _ _ _ (c .before .before .before .before .before .before .loop .inv _ f) (c .before .before .before .before .before .loop-test .taken) _ (f .insts-are)
 
 loop-less : tie.Need-loop-less Inv-loop μ-loop
 loop-less c = left-falls _ _ _ (c .before .before .before .before .before .before .loop-test .taken) (c .next-link .ensures)

@@ -1,12 +1,12 @@
--- `step_integer::is_known` meets its contract. Assumes nothing.
+-- `step_integer::type_known` meets its contract. Assumes nothing.
 use mathlib.Core.Path.{sym, _∙_, ap}
 use mathlib.Core.Bool.{Bool, not}
 use lib.Dec.{eqb}
 use Rattle.nan.specs.declared.CellType.{CellType}
 use Rattle.machine.specs.Step.{numberOf}
 use borrow.Author.Needs.{needs}
-use Rattle.step_integer.proofs.is_known.Statement.{statement}
-use Rattle.step_integer.proofs.is_known.Tie as tie
+use Rattle.step_integer.proofs.type_known.Statement.{statement}
+use Rattle.step_integer.proofs.type_known.Tie as tie
 
 abbrev told : CellType → Bool
 told t = not (eqb (numberOf t) 0)
@@ -31,8 +31,8 @@ returns-5 : tie.Need-returns-5
 unfolding numberOf
 returns-5 c = ap told (sym (c .enum-told5 .given .1) ∙ c .before .before .get-type .ensures)
 
-pub is-known-spec : {M : Type 1} → statement M
-is-known-spec =
+pub type-known-spec : {M : Type 1} → statement M
+type-known-spec =
     tie.close
     (tie.spec
     (λ c κs. search needs)
