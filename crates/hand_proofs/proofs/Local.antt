@@ -1,8 +1,9 @@
 -- A local that is lent as a `&mut` for the lifetime of a call, and comes back; and an array of numbers that is so lent. It says nothing of any crate.
 --     lends-local      the local's cell, at vs, and own h vs  ⊢ ⇛ ∃ γ. own (the `&κ mut T` ((b, 0), γ, h)) ∗ the lender's part
 --     local-back       [†κ] ∗ the lender's part ∗ res γ h  ⊢ ⇛ (the local's cell, at the machine values of h, ∗ own h of them)
---     Kind, Fit, Cell              a `[T; n]` of unsigned numbers: which one, that a list has its length and its numbers fit, and a local that holds it
---     lend, back                   the same of such an array, as steps of a walk;  owns-array, repeats, fills: the array by value, `[v; n]`, and a local that is filled from a field
+--     Kind, array, Numbers, numbers    a `[T; n]` of unsigned numbers: which one, its types in the MIR and here, and a list of numbers as it lies in memory;  Fit: the list has its length, and its numbers fit;  array-typed: then it is of its type
+--     Cell, Owned, Lent, Lender    a local that holds such an array, what that owns, the `&mut` to it, and what its lender keeps;  lends-array, array-back: lends-local and local-back of it;  lend, back: the same as steps of a walk
+--     owns-array, repeats, fills   the array by value, `[v; n]`, and a local that is filled from a field, which is read through `map (λ v. v)`: same-is
 -- Assumes `Given`.
 use mathlib.Core.Path.{_≡_, refl, sym, ap, subst}
 use Prim.Native.Nat.{ℕ, _<_, _^_}
@@ -44,7 +45,6 @@ module _ {M : Type 1} (𝓤 : URA M) (H : Heap 𝓤) (A : Atoms 𝓤) (W : Given
       qed W (‵ (fdead κ) ∷ ‵ (flent κ (Body (mem R) b 0 γ)) ∷ ‵ (fres γ (R .coded .code h)) ∷ []) ∵ updating ! $
       use3 W (later (‵ (partAt R fullShare h b 0))) (ref-back 𝓤 H A W R κ γ h b 0) $ await ! tt $ fpick ! (λ us. fsplit ! $ spelt ! R P sh vals tl fullShare h us b 0 $ at-once ! $ frame ! $ done !)
 
--- an array in a struct is read through `map (λ v. v)`
 pub same-is : (s : List ℕ) → map (λ (v : ℕ). v) s ≡ s
 same-is [] = refl
 same-is (v ∷ s) = ap (λ (r : List ℕ). v ∷ r) (same-is s)

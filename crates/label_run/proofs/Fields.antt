@@ -1,33 +1,42 @@
--- The structs that the walks read and make, by the names of their fields. The order of a struct's fields is known here and nowhere else in the proofs by hand: a walk reads a field by the code's
+-- The structs that the walks read and make, by the names of their fields. The order of a struct's fields is known here and nowhere else in this crate's proofs: a walk reads a field by the code's
 -- own number for it (`hand_proofs`'s `part`). A field behind `halted` is none of these files' business until a walk reads it. Assumes nothing.
 use mathlib.Core.Path.{refl, subst}
 use Prim.Native.Nat.{_<_, _^_}
-use mathlib.Core.List.{[], _∷_}
+use mathlib.Core.List.{List, [], _∷_}
 use mir.Syntax.{w8, w16, w64}
 use mir.Val.{Val}
 use denote.Laws.{Is}
 use denote.Struct.Laws as LL
 use denote.Enum.Laws as EL
 use Rattle.machine.specs.declared.Ending.{Ending}
+use Rattle.machine.specs.declared.Label.{Label}
 use Rattle.machine.specs.declared.Machine.{Machine}
 use Rattle.machine.specs.Limits.{stackLimit, callLimit, memorySize}
 use Rattle.machine.proofs.Ending as En
 use Rattle.machine.proofs.Ending.Laws as En′
+use Rattle.machine.proofs.Label as Lb
+use Rattle.machine.proofs.Label.Laws as Lb′
 use Rattle.machine.proofs.Machine as Mc
 use Rattle.machine.proofs.Machine.Laws as Mc′
 use Rattle.known.specs.Known.{knownLimit}
 use Rattle.step_core.specs.declared.Registers.{Registers}
-use Rattle.step_core.proofs.Registers as Co
-use Rattle.step_core.proofs.Registers.Laws as Co′
+use Rattle.step_core.proofs.Registers as Rg
+use Rattle.step_core.proofs.Registers.Laws as Rg′
+use Rattle.step_core.specs.declared.LookedUp.{LookedUp}
+use Rattle.step_core.proofs.LookedUp as Fd
+use Rattle.step_core.proofs.LookedUp.Laws as Fd′
+use Rattle.lookup.specs.declared.Walk.{Walk}
+use Rattle.lookup.proofs.Walk as Wk
+use Rattle.lookup.proofs.Walk.Laws as Wk′
 use Rattle.run.specs.declared.progress.Progress.{Progress}
 use Rattle.run.specs.declared.Ran.{Ran}
 use Rattle.run.proofs.progress.Progress as Pg
 use Rattle.run.proofs.progress.Progress.Laws as Pg′
 use Rattle.run.proofs.Ran as Rn
 use Rattle.run.proofs.Ran.Laws as Rn′
-use Rattle.c_answers.specs.declared.Ran as host
-use Rattle.c_answers.proofs.Ran as Ha
-use Rattle.c_answers.proofs.Ran.Laws as Ha′
+use Rattle.c_answers.specs.declared.Ran as c-answers
+use Rattle.c_answers.proofs.Ran as Ca
+use Rattle.c_answers.proofs.Ran.Laws as Ca′
 use Rattle.hand_proofs.proofs.Local.{Kind, Fit, same-is}
 use Rattle.label_run.proofs.Runs.{regs}
 
@@ -57,8 +66,26 @@ MachineIs m = Is Mc.the-row m (machine-val m ∷ [])
 abbrev pub ending-val : Ending → Val
 ending-val e = EL.val En.the-type En′.the-laws e
 
+abbrev pub label-vals : Label → List Val
+label-vals = LL.vals Lb.the-type Lb′.the-laws
+
+abbrev pub LabelIs : Label → Type 0
+LabelIs l = Is Lb.the-row l (label-vals l)
+
+abbrev pub found-val : LookedUp → Val
+found-val r = EL.val Fd.the-type Fd′.the-laws r
+
+abbrev pub FoundIs : LookedUp → Type 0
+FoundIs r = Is Fd.the-row r (found-val r ∷ [])
+
+abbrev pub walk-val : Walk → Val
+walk-val w = LL.val Wk.the-type Wk′.the-laws w
+
+abbrev pub WalkIs : Walk → Type 0
+WalkIs w = Is Wk.the-row w (walk-val w ∷ [])
+
 abbrev pub regs-val : Registers → Val
-regs-val c = LL.val Co.the-type Co′.the-laws c
+regs-val c = LL.val Rg.the-type Rg′.the-laws c
 
 abbrev pub progress-val : Progress → Val
 progress-val o = LL.val Pg.the-type Pg′.the-laws o
@@ -72,8 +99,8 @@ ran-val r = LL.val Rn.the-type Rn′.the-laws r
 abbrev pub RanIs : Ran → Type 0
 RanIs r = Is Rn.the-row r (ran-val r ∷ [])
 
-abbrev pub host-val : host.Ran → Val
-host-val x = LL.val Ha.the-type Ha′.the-laws x
+abbrev pub c-ran-val : c-answers.Ran → Val
+c-ran-val x = LL.val Ca.the-type Ca′.the-laws x
 
 -- what is known of a machine's fields, in the struct's order up to the last that a walk reads
 pub record MachineFits (m : Machine) : Type 0 where
@@ -98,6 +125,10 @@ machine-fits m is =
       ip = ip .1;
     }
 
+-- of a walk's
+pub answer-fits : (w : Walk) → WalkIs w → FoundIs (w .answer)
+answer-fits w is = let (on, (at, (bound, (answer, _)))) = LL.owed Wk.the-type Wk′.the-laws w _ is in answer
+
 -- of a progress's
 pub start-fits : (o : Progress) → ProgressIs o → o .start < 2 ^ 64
 start-fits o is = let (regs, (flags, (left, (dumped, (on, (start, _)))))) = LL.owed Pg.the-type Pg′.the-laws o _ is in start .1
@@ -117,11 +148,11 @@ ran-fits r is =
     let (machine, (ending, (steps, (dumped, _)))) = LL.owed Rn.the-type Rn′.the-laws r _ is in
     record { machine = machine; ending = ending; steps = steps .1; dumped = dumped .1 }
 
--- what is made: a machine's registers (ip, height, call_height), and the answer to a host (ending, steps, dumped)
-pub regs-is : (m : Machine) → MachineIs m → Is Co.the-row (regs m) (regs-val (regs m) ∷ [])
+-- what is made: a machine's registers (ip, height, call_height), and c_answers' answer (ending, steps, dumped)
+pub regs-is : (m : Machine) → MachineIs m → Is Rg.the-row (regs m) (regs-val (regs m) ∷ [])
 regs-is m is =
     let f = machine-fits m is in
-    LL.owes Co.the-type Co′.the-laws (regs m) ((refl, f .ip), ((refl, f .height), ((refl, f .call-height), tt)))
+    LL.owes Rg.the-type Rg′.the-laws (regs m) ((refl, f .ip), ((refl, f .height), ((refl, f .call-height), tt)))
 
-pub host-is : (x : host.Ran) → x .ending < 2 ^ 64 → x .steps < 2 ^ 64 → x .dumped < 2 ^ 64 → Is Ha.the-row x (host-val x ∷ [])
-host-is x e s d = LL.owes Ha.the-type Ha′.the-laws x ((refl, e), ((refl, s), ((refl, d), tt)))
+pub c-ran-is : (x : c-answers.Ran) → x .ending < 2 ^ 64 → x .steps < 2 ^ 64 → x .dumped < 2 ^ 64 → Is Ca.the-row x (c-ran-val x ∷ [])
+c-ran-is x e s d = LL.owes Ca.the-type Ca′.the-laws x ((refl, e), ((refl, s), ((refl, d), tt)))

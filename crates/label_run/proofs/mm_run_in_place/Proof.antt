@@ -12,8 +12,7 @@
 --     6       limit
 --     7       dumps
 --
--- Parameters have the lifetimes κ₀ image, κ₁ insts, κ₂ labels, κ₃ m, κ₄ dumps, with the shares q of their tokens. In the context stand the things that are owned, and behind them
--- the locals, the last one first, each a cell and its end: a line [..] says which things these are, and `at n k` is local k behind n of them.
+-- Lifetimes: κ₀ image, κ₁ insts, κ₂ labels, κ₃ m, κ₄ dumps. How to read it is in hand_proofs/proofs/Words.antt.
 use mathlib.Core.Path.{_≡_, refl}
 use Prim.Native.Nat.{ℕ, _<_, _^_}
 use mathlib.Core.List.{List, [], _∷_}
@@ -28,7 +27,6 @@ use prog.Routine.{Routine}
 use prog.Wp.{Heap, WpFn, Tables}
 use ghost.Atoms.{Atoms}
 use contract.Monad.{Fun}
-use contract.Running.{givenOf, tables, tablesOf}
 use types.Kit.{Given, Item, ‵, raw, _⊛_, ⋆, _$_, _∵_, !, qed, by, cut, move, drop, use0, use2, split, join, fsplit3, fjoin, fjoin3, feqL, feqI, suffices, frame, done}
 use types.Part.{agg}
 use types.SemTy.{Body}
@@ -50,7 +48,6 @@ use denote.Triple.Call.{calls-at}
 use denote.Triple.Clauses.{lasts}
 use denote.Triple.Entry.{onEntry}
 use denote.Triple.Spec.{Meets, tripleOf}
-use denote.Triple.Table.{entered, cited}
 use denote.Triple.Walked.{says, Stays, stay-none-slice, gave-slice, stay-ref, stay-none, walkOf, ends-at, goes-none-slice, goes-gave-slice, goes-ref, goes-none}
 use denote.Exit.{yes}
 use Rattle.machine.specs.declared.Ending.{Ending}
@@ -59,28 +56,26 @@ use Rattle.machine.specs.declared.Machine.{Machine}
 use Rattle.machine.specs.Run.{Result}
 use Rattle.machine.proofs.Ending as En
 use Rattle.machine.proofs.Ending.Laws as En′
-use Rattle.machine.proofs.Label as T′
+use Rattle.machine.proofs.Label as Lb
 use Rattle.machine.proofs.Machine as Mc
 use Rattle.machine.proofs.Machine.Laws as Mc′
 use Rattle.run.specs.declared.Ran.{Ran}
 use Rattle.run.specs.Runs.{answer}
 use Rattle.run.proofs.Ran as Rn
 use Rattle.run.proofs.Ran.Laws as Rn′
-use Rattle.c_answers.specs.declared.Ran as host
+use Rattle.c_answers.specs.declared.Ran as c-answers
 use Rattle.c_answers.specs.Endings.{endingNumber}
-use Rattle.c_answers.proofs.Ran as Ha
-use Rattle.c_answers.proofs.Ran.Laws as Ha′
+use Rattle.c_answers.proofs.Ran as Ca
+use Rattle.c_answers.proofs.Ran.Laws as Ca′
 use Rattle.c_answers.proofs.ending_number as number′
-use Rattle.c_answers.proofs.ending_number.Symbol as number-def
 use Rattle.c_answers.proofs.ending_number.Symbol.{name as #c-answers·ending-number}
 use Rattle.c_answers.proofs.ending_number.Met as number-thm
-use Rattle.hand_proofs.proofs.Whole.{by-walk}
+use Rattle.hand_proofs.proofs.Whole.{by-walk, at-code, callee, whole}
 use Rattle.hand_proofs.proofs.Words.{place, behind, local, part, _&_, none, pointer, lets, keeps, full1, past, aside, taken, opens-struct, closes-struct, number, made, shared, answers, replies}
 use Rattle.label_run.specs.Runs.{runOf, runCall}
 use Rattle.label_run.proofs.Runs.{in-place}
-use Rattle.label_run.proofs.Fields.{machine-val, MachineIs, ending-val, ran-fits, host-val, host-is}
+use Rattle.label_run.proofs.Fields.{machine-val, MachineIs, ending-val, ran-fits, c-ran-val, c-ran-is}
 use Rattle.label_run.proofs.execute_program as run′
-use Rattle.label_run.proofs.execute_program.Symbol as run-def
 use Rattle.label_run.proofs.execute_program.Symbol.{name as #label-run·execute-program}
 use Rattle.label_run.proofs.execute_program.Met as run-thm
 use Rattle.label_run.proofs.mm_run_in_place.Key.{name as #label-run·mm-run-in-place}
@@ -92,10 +87,10 @@ abbrev at : ℕ → ℕ → ℕ
 at n k = place 14 n k
 
 abbrev stayed : Stays (call.ended .signature .params) (call.ended .kept)
-stayed = (stay-none-slice (0 ∷ []) tt (plain (λ _. u8)) yes, (stay-none-slice (1 ∷ []) tt (plain (λ _. u8)) yes, (stay-none-slice (2 ∷ []) tt (plain (λ _. T′.the-row)) yes, (stay-none (λ _. u64) yes, (stay-ref (3 ∷ []) tt (plain (λ _. Mc.the-row)), (stay-none (λ _. u64) yes, (gave-slice (4 ∷ []) tt (plain (λ _. u8)), tt)))))))
+stayed = (stay-none-slice (0 ∷ []) tt (plain (λ _. u8)) yes, (stay-none-slice (1 ∷ []) tt (plain (λ _. u8)) yes, (stay-none-slice (2 ∷ []) tt (plain (λ _. Lb.the-row)) yes, (stay-none (λ _. u64) yes, (stay-ref (3 ∷ []) tt (plain (λ _. Mc.the-row)), (stay-none (λ _. u64) yes, (gave-slice (4 ∷ []) tt (plain (λ _. u8)), tt)))))))
 
 -- the answer, of the run's and of its ending's number
-abbrev numbers : Ran → ℕ → host.Ran
+abbrev numbers : Ran → ℕ → c-answers.Ran
 numbers r n = record { ending = n; steps = r .steps; dumped = r .dumped }
 
 -- the last values of `execute_program`: the buffer's is the seventh
@@ -151,7 +146,7 @@ module _ {M : Type 1} (𝓤 : URA M) (H : Heap 𝓤) (A : Atoms 𝓤) (W : Given
   Insts = ShrSlice (named 1) κ₁ u8 .own ins (iv ∷ [])
 
   abbrev Labels : Fml
-  Labels = ShrSlice (named 2) κ₂ T′.the-row .own lab (lv ∷ [])
+  Labels = ShrSlice (named 2) κ₂ Lb.the-row .own lab (lv ∷ [])
 
   abbrev Dumps : Fml
   Dumps = MutSlice (named 4) κ₄ u8 .own buf (dv ∷ [])
@@ -177,13 +172,13 @@ module _ {M : Type 1} (𝓤 : URA M) (H : Heap 𝓤) (A : Atoms 𝓤) (W : Given
 
   goes-run : c < 2 ^ 64 → limit < 2 ^ 64 → MachineIs m → ent 𝓤 (⋆ 𝓤 H A From-run) (⋆ 𝓤 H A To-run)
   goes-run fc fl is =
-      qed W From-run ∵ move ! (5 ∷ []) $ shared ! (named 2) κ₂ T′.the-row lab (lv ∷ []) $ move ! (5 ∷ []) $ shared ! (named 1) κ₁ u8 ins (iv ∷ []) $ move ! (5 ∷ []) $ shared ! (named 0) κ₀ u8 im (gv ∷ []) $
+      qed W From-run ∵ move ! (5 ∷ []) $ shared ! (named 2) κ₂ Lb.the-row lab (lv ∷ []) $ move ! (5 ∷ []) $ shared ! (named 1) κ₁ u8 ins (iv ∷ []) $ move ! (5 ∷ []) $ shared ! (named 0) κ₀ u8 im (gv ∷ []) $
       -- [the image twice; the instructions twice; the labels twice; κ₀; κ₁; κ₂; κ₄; the buffer]
       nothing ! $ move ! (11 ∷ 0 ∷ []) $ fjoin ! $ number ! w64 limit fl $ fjoin ! $ made ! Mc.the-type Mc′.the-plain m _ is $ fjoin ! $
       number ! w64 c fc $ fjoin ! $ move ! (5 ∷ 0 ∷ []) $ fjoin ! $ move ! (3 ∷ 0 ∷ []) $ fjoin ! $ move ! (1 ∷ 0 ∷ []) $ fjoin ! $
       -- [what is passed; the image; the instructions; the labels; κ₀; κ₁; κ₂; κ₄]
       nothing ! $ move ! (8 ∷ 0 ∷ []) $ join ! $ move ! (7 ∷ 0 ∷ []) $ join ! $ move ! (6 ∷ 0 ∷ []) $ join ! $ move ! (5 ∷ 0 ∷ []) $ join ! $
-      use2 W (raw (Run 𝓤 H A mem run .pre to-run)) (qed W (Tokens ∷ ‵ (owns (ShrSlice (named 0) κ₀ u8 ∷ ShrSlice (named 1) κ₁ u8 ∷ ShrSlice (named 2) κ₂ T′.the-row ∷ usize ∷ Mc.the-row ∷ u64 ∷ MutSlice (named 3) κ₄ u8 ∷ []) args-run sent-run) ∷ []) ∵ join ! $ frame ! $ done !) $
+      use2 W (raw (Run 𝓤 H A mem run .pre to-run)) (qed W (Tokens ∷ ‵ (owns (ShrSlice (named 0) κ₀ u8 ∷ ShrSlice (named 1) κ₁ u8 ∷ ShrSlice (named 2) κ₂ Lb.the-row ∷ usize ∷ Mc.the-row ∷ u64 ∷ MutSlice (named 3) κ₄ u8 ∷ []) args-run sent-run) ∷ []) ∵ join ! $ frame ! $ done !) $
       frame ! $ frame ! $ frame ! $ done !
 
   -- ---- the call of `ending_number`
@@ -197,31 +192,31 @@ module _ {M : Type 1} (𝓤 : URA M) (H : Heap 𝓤) (A : Atoms 𝓤) (W : Given
   abbrev At-exit : Ran → List ℕ → List (Item 𝓤)
   At-exit r d = ‵ (fobs γ (Mc.the-row .coded .code (r .machine))) ∷ ‵ (fbor κ₃ (Body (mem-of Mc.the-row) b o γ)) ∷ ‵ (flft κ₃ q₃) ∷ Tokens ∷ ‵ (finally u8 (buf .name) d) ∷ ‵ Image ∷ ‵ Insts ∷ ‵ Labels ∷ []
 
-  exits : (r : Ran) (d : List ℕ) (n : ℕ) → c < 2 ^ 64 → limit < 2 ^ 64 → Is Ha.the-row (numbers r n) (host-val (numbers r n) ∷ []) → length d ≡ length (buf .now) → answer r d ≡ whole-run → n ≡ endingNumber (r .ending)
-      → ent 𝓤 (⋆ 𝓤 H A (At-exit r d)) (Post (host-val (numbers r n)))
+  exits : (r : Ran) (d : List ℕ) (n : ℕ) → c < 2 ^ 64 → limit < 2 ^ 64 → Is Ca.the-row (numbers r n) (c-ran-val (numbers r n) ∷ []) → length d ≡ length (buf .now) → answer r d ≡ whole-run → n ≡ endingNumber (r .ending)
+      → ent 𝓤 (⋆ 𝓤 H A (At-exit r d)) (Post (c-ran-val (numbers r n)))
   unfolding runCall
   exits r d n fc fl is long gives e =
       qed W (At-exit r d) ∵
-      suffices ! _ (ends-at 𝓤 H A call.ended stayed (call.clauses 𝓤 H A mem run) W (((κ₀, (κ₁, (κ₂, (κ₃, (κ₄, tt))))), (q₀, (q₁, (q₂, (q₃, (q₄, tt))))), tt, a, vs), tt) (host-val (numbers r n)) (numbers r n) (tt, (tt, (tt, (tt, (r .machine, (tt, (d, tt))))))) (tt, (tt, (tt, (tt, (tt, (tt, (long, tt)))))))) $
+      suffices ! _ (ends-at 𝓤 H A call.ended stayed (call.clauses 𝓤 H A mem run) W (((κ₀, (κ₁, (κ₂, (κ₃, (κ₄, tt))))), (q₀, (q₁, (q₂, (q₃, (q₄, tt))))), tt, a, vs), tt) (c-ran-val (numbers r n)) (numbers r n) (tt, (tt, (tt, (tt, (r .machine, (tt, (d, tt))))))) (tt, (tt, (tt, (tt, (tt, (tt, (long, tt)))))))) $
       says ! (in-place whole-run r d n gives e) $
       move ! (3 ∷ []) $ split ! $ move ! (1 ∷ []) $ split ! $ move ! (1 ∷ []) $ split ! $ move ! (6 ∷ 1 ∷ []) $ join ! $ move ! (1 ∷ 0 ∷ []) $ join ! $ move ! (1 ∷ 0 ∷ []) $ join ! $ move ! (1 ∷ 0 ∷ []) $ join ! $ frame ! $
       -- [obs; the borrow; the buffer's last; the image; the instructions; the labels]
       nothing ! $ move ! (3 ∷ 0 ∷ []) $ fjoin ! $ number ! w64 limit fl $ fjoin ! $ move ! (1 ∷ 2 ∷ []) $ feqI ! (List Val) (vptr b o ∷ []) (vptr b o ∷ []) refl $ fjoin3 ! $ fjoin ! $
-      number ! w64 c fc $ fjoin ! $ move ! (3 ∷ 0 ∷ []) $ fjoin ! $ move ! (2 ∷ 0 ∷ []) $ fjoin ! $ move ! (1 ∷ 0 ∷ []) $ fjoin ! $ frame ! $ made ! Ha.the-type Ha′.the-plain (numbers r n) _ is $ done !
+      number ! w64 c fc $ fjoin ! $ move ! (3 ∷ 0 ∷ []) $ fjoin ! $ move ! (2 ∷ 0 ∷ []) $ fjoin ! $ move ! (1 ∷ 0 ∷ []) $ fjoin ! $ frame ! $ made ! Ca.the-type Ca′.the-plain (numbers r n) _ is $ done !
 
   module _ (𝓣 : Tables 𝓤 H) (knows : Knows 𝓤 H A mem run 𝓣) where
-    walk : Room u8 (length (im .now)) → Room u8 (length (ins .now)) → Room T′.the-row (length (lab .now)) → c < 2 ^ 64 → limit < 2 ^ 64 → Room u8 (length (buf .now))
+    walk : Room u8 (length (im .now)) → Room u8 (length (ins .now)) → Room Lb.the-row (length (lab .now)) → c < 2 ^ 64 → limit < 2 ^ 64 → Room u8 (length (buf .now))
         → ent 𝓤 (onEntry 𝓤 H A call.signature (κ₀, (κ₁, (κ₂, (κ₃, (κ₄, tt))))) (q₀, (q₁, (q₂, (q₃, (q₄, tt))))) a vs) (WpFn 𝓤 H (𝓣 .C) (𝓣 .Λ) code.function (gv ∷ iv ∷ lv ∷ vint w64 c ∷ vptr b o ∷ vint w64 limit ∷ dv ∷ []) Post)
     walk gg gi gl fc fl gd =
         let machine-typed = LL.lawful Mc.the-type Mc′.the-laws 𝓤 H A W .typed in
         -- the locals are made, and the parameters stored in them
-        qed W ((‵ (flft κ₀ q₀) ⊛ ‵ (flft κ₁ q₁) ⊛ ‵ (flft κ₂ q₂) ⊛ ‵ (flft κ₃ q₃) ⊛ ‵ (flft κ₄ q₄) ⊛ ‵ ftrue) ∷ ‵ (owns (ShrSlice (named 0) κ₀ u8 ∷ ShrSlice (named 1) κ₁ u8 ∷ ShrSlice (named 2) κ₂ T′.the-row ∷ u64 ∷ MutRef (named 3) κ₃ Mc.the-row ∷ u64 ∷ MutSlice (named 4) κ₄ u8 ∷ []) a vs) ∷ []) ∵
+        qed W ((‵ (flft κ₀ q₀) ⊛ ‵ (flft κ₁ q₁) ⊛ ‵ (flft κ₂ q₂) ⊛ ‵ (flft κ₃ q₃) ⊛ ‵ (flft κ₄ q₄) ⊛ ‵ ftrue) ∷ ‵ (owns (ShrSlice (named 0) κ₀ u8 ∷ ShrSlice (named 1) κ₁ u8 ∷ ShrSlice (named 2) κ₂ Lb.the-row ∷ u64 ∷ MutRef (named 3) κ₃ Mc.the-row ∷ u64 ∷ MutSlice (named 4) κ₄ u8 ∷ []) a vs) ∷ []) ∵
         enter ! (𝓣 .C) (𝓣 .Λ) code.function (gv ∷ iv ∷ lv ∷ vint w64 c ∷ vptr b o ∷ vint w64 limit ∷ dv ∷ []) _ $
         alloc1 ! (λ l₀. alloc1 ! (λ l₁. alloc1 ! (λ l₂. alloc1 ! (λ l₃. alloc1 ! (λ l₄. alloc1 ! (λ l₅. alloc1 ! (λ l₆. alloc1 ! (λ l₇. alloc1 ! (λ l₈. alloc1 ! (λ l₉. alloc1 ! (λ l₁₀. alloc1 ! (λ l₁₁. alloc1 ! (λ l₁₂. alloc1 ! (λ l₁₃. alloc1 ! (λ l₁₄. alloc0 ! $ params1 ! $
         pass1 ! (init ! (at 0 1) refl (tt, (tt, (record { fits = gg .0 }, tt)))) $ pass1 ! (init ! (at 0 2) refl (tt, (tt, (record { fits = gi .0 }, tt)))) $ pass1 ! (init ! (at 0 3) refl (tt, (tt, (record { fits = gl .0 }, tt)))) $ pass1 ! (init ! (at 0 4) refl (tt, record { fits = fc })) $
         pass1 ! (init ! (at 0 5) refl (tt, tt)) $ pass1 ! (init ! (at 0 6) refl (tt, record { fits = fl })) $ pass1 ! (init ! (at 0 7) refl (tt, (tt, (record { fits = gd .0 }, tt)))) $ pass0 ! $
-        -- [..; the tokens; what the parameters own]: both are taken apart
-        move ! (30 ∷ 31 ∷ []) $ taken ! $ taken ! $ taken ! $ taken ! $ taken ! $ drop ! $
+        -- [the locals; the tokens; what the parameters own]: both are taken apart
+        move ! (at 2 0 ∷ at 3 0 ∷ []) $ taken ! $ taken ! $ taken ! $ taken ! $ taken ! $ drop ! $
         -- [κ₄; κ₃; κ₂; κ₁; κ₀; what the parameters own]
         move ! (5 ∷ []) $ aside ! $ aside ! $ aside ! $ past ! $ aside ! $ past ! $ aside ! $ drop ! $
         -- [the buffer; the machine; the labels; the instructions; the image; κ₄; κ₃; κ₂; κ₁; κ₀]: the machine's borrow is opened
@@ -249,10 +244,10 @@ module _ {M : Type 1} (𝓤 : URA M) (H : Heap 𝓤) (A : Atoms 𝓤) (W : Given
         calls-at ! (fmOf 𝓤 H (W .laws) 𝓣) (Number 𝓤 H A mem run) (knows .numbers-it) (to-number (r .ending)) (part ! (at 10 8) refl refl refl & none) (λ u.
         replies ! u64 (uint-vals w64) (uint-tells w64) u (‵ ftrue) (lasts number′.ended tt (r .ending, tt)) (λ n ws. n ≡ endingNumber (r .ending)) (id⊢ 𝓤 _) (λ n _ e isn.
         keeps ! (init ! (at 10 9) refl (tt, record { fits = isn .1 })) $ drop ! $
-        -- Ran { ending, steps: r.steps, dumped: r.dumped as u64 }
-        let is-answer = host-is (numbers r n) (isn .1) (f .steps) (f .dumped) in
+        -- c_answers::Ran { ending: ending, steps: r.steps, dumped: r.dumped as u64 }
+        let is-answer = c-ran-is (numbers r n) (isn .1) (f .steps) (f .dumped) in
         lets ! (of-opd ! (part ! (at 9 8) refl refl refl)) (init ! (at 9 14) refl (tt, record { fits = f .dumped })) $
-        lets ! (agg ! (local ! (at 9 9) refl & part ! (at 9 8) refl refl refl & local ! (at 9 14) refl & none)) (init ! (at 9 0) refl (LL.lawful Ha.the-type Ha′.the-laws 𝓤 H A W .typed (numbers r n) _ is-answer .0)) $
+        lets ! (agg ! (local ! (at 9 9) refl & part ! (at 9 8) refl refl refl & local ! (at 9 14) refl & none)) (init ! (at 9 0) refl (LL.lawful Ca.the-type Ca′.the-laws 𝓤 H A W .typed (numbers r n) _ is-answer .0)) $
         -- the borrow is closed at the machine that the run returned
         move ! (5 ∷ 6 ∷ 7 ∷ 8 ∷ []) $ closes-struct ! tt Mc.the-type Mc′.the-plain (r .machine) _ (f .machine) b o $
         -- [obs; the borrow; κ₃; the tokens; the buffer's last; the image; the instructions; the labels]: all locals hold values
@@ -263,10 +258,10 @@ module _ {M : Type 1} (𝓤 : URA M) (H : Heap 𝓤) (A : Atoms 𝓤) (W : Given
 call-meets : {M : Type 1} (𝓤 : URA M) (H : Heap 𝓤) (A : Atoms 𝓤) → Given 𝓤 H A → (mem : Memory → SProp 𝓤) (run : Routine → Fun 𝓤) (𝓣 : Tables 𝓤 H)
     → Knows 𝓤 H A mem run 𝓣 → Meets 𝓤 H A call.signature (WpFn 𝓤 H (𝓣 .C) (𝓣 .Λ) code.function) (call.spec 𝓤 H A mem run)
 call-meets 𝓤 H A W mem run 𝓣 knows =
-    by-walk 𝓤 H A call.ended stayed W (goes-none-slice 𝓤 H A W 5 (0 ∷ []) tt (plain (λ _. u8)) yes, (goes-none-slice 𝓤 H A W 5 (1 ∷ []) tt (plain (λ _. u8)) yes, (goes-none-slice 𝓤 H A W 5 (2 ∷ []) tt (plain (λ _. T′.the-row)) yes, (goes-none 𝓤 H A W 5 (λ _. u64) yes (λ κs x f. refl), (goes-ref 𝓤 H A W 5 3 tt (plain (λ _. Mc.the-row)), (goes-none 𝓤 H A W 5 (λ _. u64) yes (λ κs x f. refl), (goes-gave-slice 𝓤 H A W 5 4 tt (plain (λ _. u8)), tt)))))))
+    by-walk 𝓤 H A call.ended stayed W (goes-none-slice 𝓤 H A W 5 (0 ∷ []) tt (plain (λ _. u8)) yes, (goes-none-slice 𝓤 H A W 5 (1 ∷ []) tt (plain (λ _. u8)) yes, (goes-none-slice 𝓤 H A W 5 (2 ∷ []) tt (plain (λ _. Lb.the-row)) yes, (goes-none 𝓤 H A W 5 (λ _. u64) yes (λ κs x f. refl), (goes-ref 𝓤 H A W 5 3 tt (plain (λ _. Mc.the-row)), (goes-none 𝓤 H A W 5 (λ _. u64) yes (λ κs x f. refl), (goes-gave-slice 𝓤 H A W 5 4 tt (plain (λ _. u8)), tt)))))))
     (call.clauses 𝓤 H A mem run) 𝓣 code.function
     (λ κs. (slice-vals, (slice-vals, (slice-vals, (uint-vals w64, (ptr-vals, (uint-vals w64, (slice-vals, tt))))))))
-    (λ κs. (shr-slice-tells (named 0) (κs .0) u8, (shr-slice-tells (named 1) (κs .1 .0) u8, (shr-slice-tells (named 2) (κs .1 .1 .0) T′.the-row, (uint-tells w64, (mut-tells (named 3) (κs .1 .1 .1 .0) Mc.the-row, (uint-tells w64, (mut-slice-tells (named 4) (κs .1 .1 .1 .1 .0) u8, tt))))))))
+    (λ κs. let (κ₀, (κ₁, (κ₂, (κ₃, (κ₄, _))))) = κs in (shr-slice-tells (named 0) κ₀ u8, (shr-slice-tells (named 1) κ₁ u8, (shr-slice-tells (named 2) κ₂ Lb.the-row, (uint-tells w64, (mut-tells (named 3) κ₃ Mc.the-row, (uint-tells w64, (mut-slice-tells (named 4) κ₄ u8, tt))))))))
     (λ κs qs bounds a g are.
     let (κ₀, (κ₁, (κ₂, (κ₃, (κ₄, _))))) = κs in
     let (q₀, (q₁, (q₂, (q₃, (q₄, _))))) = qs in
@@ -276,11 +271,10 @@ call-meets 𝓤 H A W mem run 𝓣 knows =
     (is-image .0 .1) (is-insts .0 .1) (is-labels .0 .1) (is-count .1) (is-limit .1) (is-dumps .0 .1)))
 
 pub mm-run-in-place-spec : {M : Type 1} → stated.statement M
-unfolding code.routine tablesOf
+unfolding code.routine
 mm-run-in-place-spec 𝓤 H 𝓜 𝓖 𝓡 =
-    entered 𝓤 H (tripleOf 𝓤 H (𝓖 .A) call.signature (call.spec 𝓤 H (𝓖 .A) (𝓜 .mem) (𝓡 .run)))
-    (tables 𝓤 H 𝓜 𝓡 code.env .C) (tables 𝓤 H 𝓜 𝓡 code.env .Λ) #label-run·mm-run-in-place code.function (code.unfolded 𝓤 H 𝓜 𝓡)
-    (call-meets 𝓤 H (𝓖 .A) (givenOf 𝓤 H 𝓜 𝓖) (𝓜 .mem) (𝓡 .run) (tablesOf 𝓤 H 𝓜 (tables 𝓤 H 𝓜 𝓡 code.env)) (record {
-      runs-on = cited 𝓤 H (Run 𝓤 H (𝓖 .A) (𝓜 .mem) (𝓡 .run)) 𝓜 𝓡 code.env #label-run·execute-program run-def.routine code.calls-label-run·execute-program (run-thm.met 𝓤 H 𝓜 𝓖 𝓡);
-      numbers-it = cited 𝓤 H (Number 𝓤 H (𝓖 .A) (𝓜 .mem) (𝓡 .run)) 𝓜 𝓡 code.env #c-answers·ending-number number-def.routine code.calls-c-answers·ending-number (number-thm.met 𝓤 H 𝓜 𝓖 𝓡);
+    whole 𝓤 H 𝓜 𝓡 code.env 𝓖 call.signature (call.spec 𝓤 H (𝓖 .A) (𝓜 .mem) (𝓡 .run)) #label-run·mm-run-in-place code.function (code.unfolded 𝓤 H 𝓜 𝓡) (λ W.
+    call-meets 𝓤 H (𝓖 .A) W (𝓜 .mem) (𝓡 .run) (at-code 𝓤 H 𝓜 𝓡 code.env) (record {
+      runs-on = callee 𝓤 H 𝓜 𝓡 code.env (Run 𝓤 H (𝓖 .A) (𝓜 .mem) (𝓡 .run)) code.calls-label-run·execute-program (run-thm.met 𝓤 H 𝓜 𝓖 𝓡);
+      numbers-it = callee 𝓤 H 𝓜 𝓡 code.env (Number 𝓤 H (𝓖 .A) (𝓜 .mem) (𝓡 .run)) code.calls-c-answers·ending-number (number-thm.met 𝓤 H 𝓜 𝓖 𝓡);
     }))
