@@ -92,7 +92,7 @@ odd: $(ARCHIVES)
 random: $(ARCHIVES)
 	$(RUSTC) $(CALLS) -o target/oracle-random oracle/random.rs
 	target/oracle-random $(SEED) 1000000
-	$(call under_valgrind,target/oracle-random $(SEED) 5000)
+	$(call under_valgrind,target/oracle-random $(SEED) 5000 heap)
 
 # the stack that each call needs, and that docs/HOST.md says so
 stack: $(ARCHIVES)

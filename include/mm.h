@@ -1,5 +1,5 @@
 /*
- * mm's load, run and encode, proved in Rattle: the calls of libmm_host.a, for x86-64.
+ * mm's load, run and encode, proved in Rattle: the calls of libmm_host.a, for x86-64 Linux.
  *
  * Every call works on memory that the caller lends and no other, and keeps nothing: calls on different memory may run at the same time. A slice of memory
  * crosses as its address and its length in bytes. It may lie at any address, also an odd one, but not at NULL, and may have any length and contents: what a
@@ -77,7 +77,7 @@ enum mm_ending {
     MM_UNKNOWN_TYPE = 31,        /* an integer operation or a conversion on a cell of unknown type */
     MM_NO_SUCH_STREAM = 32,      /* a dump to another stream than 1 and 2 */
     MM_BUFFER_FULL = 33,         /* the dump buffer is full */
-    MM_ILL_STATE = 34            /* the machine isn't one that this program's load and runs leave */
+    MM_ILL_STATE = 34            /* machine, tables and count aren't ones that the image's load and runs leave */
 };
 
 /* What a load and a run answer before anything else, with nothing written: the bytes lent as a machine are none (another length than MM_MACHINE_SIZE, or,
@@ -95,7 +95,7 @@ struct mm_loaded {
 /* What mm_run answers. */
 struct mm_ran {
     uint64_t ending; /* enum mm_ending, MM_NOT_A_MACHINE */
-    uint64_t steps;  /* the steps taken, a trapping one counted */
+    uint64_t steps;  /* the steps taken, a trapping one counted; with MM_BUFFER_FULL and MM_ILL_STATE those before */
     uint64_t dumped; /* how many cells were dumped */
 };
 
@@ -115,7 +115,8 @@ struct mm_loaded mm_load(const uint8_t *image, size_t image_len, uint8_t *insts,
 struct mm_ran mm_run(const uint8_t *image, size_t image_len, const uint8_t *insts, size_t insts_len, const uint8_t *labels, size_t labels_len, uint64_t count,
                      uint8_t *machine, size_t machine_len, uint64_t limit, uint8_t *dumps, size_t dumps_len);
 
-/* Writes the program out as an image, the appended HALT included. It is at most one byte longer than the image that it was loaded from. */
+/* Writes the program out as an image, the appended HALT included. It is at most one byte longer than the image that it was loaded from. It loads again, as the
+ * same program, unless that byte makes it longer than MM_IMAGE_MAX. Both are tested, and not yet proved. */
 struct mm_encoded mm_encode(const uint8_t *image, size_t image_len, const uint8_t *insts, size_t insts_len, uint64_t count, uint8_t *out, size_t out_len);
 
 /* The number at a place in a machine, a table or a dump buffer. */

@@ -27,7 +27,7 @@ fn ours(image: &[u8]) -> String {
 }
 
 fn main() {
-    let (report, passed) = page::report("here", &page::rows(), |row| &row.here, ours);
+    let (report, passed) = page::report("here", |row| &row.here, ours);
     println!("{report}");
     if !passed {
         std::process::exit(1);

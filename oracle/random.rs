@@ -1,7 +1,7 @@
 // The host's calls on random bytes, each slice between pages that may not be touched: no byte outside is read or written, what may not
 // change doesn't, and the same call at another address answers and leaves the same.
-// Usage: oracle-random [SEED] [CALLS]. With few calls (under 100,000) each is also made in the heap, where valgrind sees a byte outside,
-// and not every number has to occur.
+// Usage: oracle-random [SEED] [CALLS] [heap]. With `heap` each call is also made in the heap, where valgrind sees a byte outside. With few
+// calls (under 100,000) not every number has to occur.
 mod blocks;
 // the comparison with the Rust has more of it
 #[allow(dead_code)]
@@ -58,7 +58,7 @@ fn main() {
     let (seed, wanted) = (number(1, 1), number(2, 1_000_000));
     blocks::watch();
     let mut stands = vec![Stand::guarded(), Stand::guarded()];
-    stands.extend((wanted < MANY).then(Stand::heap));
+    stands.extend((std::env::args().nth(3).as_deref() == Some("heap")).then(Stand::heap));
     let (mut calls, mut random) = (random_calls::Calls::new(seed), Random(!seed));
     let mut answered = BTreeMap::new();
     for i in 0..wanted {

@@ -33,10 +33,11 @@ pub enum Ending {
     Limit,
     /// 20 to 32: the instruction at the pointer trapped. That step is counted, and a further run tries the same instruction again.
     Trap(Trap),
-    /// 33: the instruction at the pointer would dump a cell and the buffer is full. A further run with room in its buffer goes on; one with no room ends
-    /// here again, with no step taken.
+    /// 33: the instruction at the pointer would dump a cell and the buffer is full. The steps before it are counted. A further run with room in its buffer
+    /// goes on; one with no room ends here again, with no step taken.
     BufferFull,
-    /// 34: the machine isn't one that this program's load and runs leave, so its next instruction can't be taken. A further run takes no step.
+    /// 34: machine, tables and count aren't ones that the image's load and runs leave, so the instruction at the pointer can't be taken. The steps before it
+    /// are counted. A further run takes no step.
     IllState,
 }
 
@@ -74,7 +75,7 @@ impl fmt::Display for Ending {
             Ending::Limit => "the limit of steps is reached",
             Ending::Trap(trap) => return trap.fmt(f),
             Ending::BufferFull => "the dump buffer is full",
-            Ending::IllState => "the machine isn't one that this program's load and runs leave",
+            Ending::IllState => "machine, tables and count aren't ones that the image's load and runs leave",
         };
         write!(f, "{sentence} ({})", self.number())
     }

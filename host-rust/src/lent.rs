@@ -68,7 +68,8 @@ impl<'a> Program<'a> {
 
     /// Writes the program out as an image, the appended HALT included, and returns what was written: the front of `out`.
     ///
-    /// A program is at most one byte longer than the image that it was loaded from.
+    /// A program is at most one byte longer than the image that it was loaded from, by the HALT. It loads again, as the same program, unless that byte makes
+    /// it longer than 16,384 bytes. Both are tested, and not yet proved.
     ///
     /// # Errors
     ///

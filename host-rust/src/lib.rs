@@ -31,8 +31,8 @@
 #![no_std]
 #![deny(missing_docs, unsafe_code)]
 
-#[cfg(not(target_arch = "x86_64"))]
-compile_error!("mm_host is for x86-64: the proved archive that it links, libmm_host.a, is x86-64 code");
+#[cfg(not(all(target_arch = "x86_64", target_os = "linux")))]
+compile_error!("mm_host is for x86-64 Linux: the proved archive that it links, libmm_host.a, is x86-64 code in Linux's format (ELF)");
 
 #[cfg(feature = "alloc")]
 extern crate alloc;

@@ -40,11 +40,17 @@ impl Program {
         self.fresh.clone()
     }
 
-    /// The program written out as an image, the HALT that the load appended included. It loads again, as the same program.
+    /// The program written out as an image, the HALT that the load appended included. It loads again, as the same program (that is tested, and not
+    /// yet proved), but for one case: where the image had 16,384 bytes and a HALT was appended, a load refuses it with [`Refusal::ImageTooLong`].
+    ///
+    /// # Panics
+    ///
+    /// Where the archive couldn't write the program out in its image's length and one byte. It can: each instruction is written in as many bytes as the image
+    /// has for it, and an appended HALT in one. That is tested, and a request will prove it. [`encode_into`](Program::encode_into) has a refusal for it.
     #[must_use]
     pub fn encode(&self) -> Vec<u8> {
         let mut out = vec![0; self.image.len() + 1];
-        let size = self.encode_into(&mut out).expect("a program is written out in its image's length and the HALT's one byte").len();
+        let size = self.encode_into(&mut out).expect("a program is written out in its image's length and one byte").len();
         out.truncate(size);
         out
     }
@@ -53,7 +59,8 @@ impl Program {
     ///
     /// # Errors
     ///
-    /// [`Refusal::NoRoom`] where `out` is shorter than needed. Nothing is written then. The image's length and one byte are enough.
+    /// [`Refusal::NoRoom`] where `out` is shorter than needed. Nothing is written then. The image's length and one byte are enough; that is tested, and not
+    /// yet proved.
     pub fn encode_into<'o>(&self, out: &'o mut [u8]) -> Result<&'o mut [u8], Refusal> {
         self.as_lent().encode(out)
     }

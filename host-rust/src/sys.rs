@@ -114,7 +114,7 @@ pub fn encode(image: &[u8], insts: &[u8], count: u64, out: &mut [u8]) -> Encoded
     unsafe { c::mm_encode(image.as_ptr(), image.len(), insts.as_ptr(), insts.len(), count, out.as_mut_ptr(), out.len()) }
 }
 
-/// The bytes of a buffer of cells. A cell lies there lowest byte first, as the archive writes it: this crate is for x86-64 only.
+/// The bytes of a buffer of cells. A cell lies there lowest byte first, as the archive writes it: this crate is for x86-64 Linux only.
 #[cfg(feature = "alloc")]
 pub fn bytes_of(cells: &mut [u64]) -> &mut [u8] {
     // SAFETY: the bytes are those of the slice, lent exclusively for as long; a byte needs no alignment, and any eight bytes are a u64.

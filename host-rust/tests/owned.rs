@@ -131,12 +131,29 @@ fn what_is_written_out_loads_again() {
     // HALT was appended, and 27 was read as 46
     assert_eq!((&out[..24], &out[24..]), (&image[..24], [46, 1, 69].as_slice()));
     let again = load(out.clone());
-    assert_eq!((again.count(), again.encode()), (program.count(), out.clone()));
+    assert_eq!((again.count(), again.encode(), again.machine()), (program.count(), out.clone(), program.machine()));
+    let (tables, before) = (again.as_lent(), program.as_lent());
+    assert!(tables.insts() == before.insts() && tables.labels() == before.labels());
     let mut room = vec![9; out.len() + 2];
     assert_eq!(program.encode_into(&mut room[..out.len() - 1]), Err(Refusal::NoRoom));
     assert!(room.iter().all(|&byte| byte == 9));
     assert_eq!(program.encode_into(&mut room).map(|written| &*written), Ok(out.as_slice()));
     assert_eq!(room[out.len()..], [9, 9]);
+}
+
+// An image as long as a load takes, with no HALT at its end: the appended one makes it too long to be loaded again.
+#[test]
+fn the_longest_image_written_out_is_too_long() {
+    let longest = image(&[push(int(5)).repeat(1_818), vec![0; 7]]);
+    let program = load(longest.clone());
+    assert_eq!((longest.len(), program.count()), (16_384, 1 + 1_818 + 7 + 1));
+    let out = program.encode();
+    assert_eq!((out.len(), &out[..16_384], out[16_384]), (16_385, longest.as_slice(), 69));
+    assert_eq!(Program::load(out), Err(Refusal::ImageTooLong));
+    // with a HALT of its own it is written out as it was
+    let halted = [&longest[..16_383], &[69]].concat();
+    assert_eq!(load(halted.clone()).encode(), halted);
+    assert_eq!(load(load(halted.clone()).encode()), load(halted));
 }
 
 #[test]

@@ -1,6 +1,8 @@
-// One image in both machines: after the load the program, its re-encoding and the pointer; after every step the whole state.
+// One image in both machines: after the load the program, its re-encoding, that loaded again, and the pointer; after every step the whole
+// state. Where document 01's domain ends, ours is held to what document 01 says there.
+use crate::edge::Edge;
 use crate::images::{self, Random};
-use crate::lent::layout::{FLAGS_AT, NUMBER_SIZE, POINTER_AT};
+use crate::lent::layout::{FLAGS_AT, IMAGE_MAX, NUMBER_SIZE, POINTER_AT, RECORD_SIZE};
 use crate::lent::sys::Ran;
 use crate::lent::{number_at, Machine, Program};
 use crate::report::Report;
@@ -26,13 +28,19 @@ impl fmt::Display for Verdict {
     }
 }
 
-// The steps that an image is followed for.
-const STEPS: u64 = 400;
+// The steps that an image is followed for; one at document 01's limits for so many that it fills either stack.
+pub const STEPS: u64 = 400;
+pub const BOUNDARY_STEPS: u64 = 2_100;
 
-// The runs that so many steps in pieces may take: random limits and buffers of no slot make some idle.
-const RUNS: u64 = 100 * STEPS;
+// The runs that a step in pieces may take: random limits and buffers of no slot make some idle.
+const RUNS: u64 = 100;
 
 const FLOATS: std::ops::RangeInclusive<u64> = 23..=26;
+const INTEGERS: std::ops::RangeInclusive<u64> = 5..=8;
+const CONVERSIONS: std::ops::RangeInclusive<u64> = 31..=36;
+
+// Document 01's one NaN.
+const NAN: u64 = 0x7FF8_0000_0000_0000;
 
 fn first_difference(rust: &Mm, ours: &Machine) -> Option<String> {
     let cells = rust.stack().iter().map(|c| c.0.to_bits());
@@ -55,9 +63,16 @@ fn first_difference(rust: &Mm, ours: &Machine) -> Option<String> {
     }
 }
 
+// A NaN on top becomes document 01's; whether there was one.
+fn replaced_nan(rust: &mut Mm) -> bool {
+    let nan = rust.stack_mut().back_mut().filter(|c| c.0.is_nan());
+    nan.map(|c| c.0 = f64::from_bits(NAN)).is_some()
+}
+
 struct Both<'a> {
     ours: Program<'a>,
     rust: &'a mm::Program,
+    steps: u64,
 }
 
 const HALTED: u64 = 0;
@@ -68,52 +83,88 @@ enum Step {
     Stop,
 }
 
-// What a step of the Rust came to: its trap, if any, and the cell that it dumped.
+// What a step of the Rust came to: its trap, if any, and the cell that it dumped; or the edge that it met.
 struct Taken {
     op: u64,
     trap: Option<u64>,
     dumped: Option<u64>,
+    edge: Option<Edge>,
 }
 
 impl Taken {
     fn ending(&self) -> u64 {
-        match (self.trap, self.op) {
-            (Some(t), _) => t,
-            (None, 69) => HALTED,
-            (None, _) => LIMIT,
+        match (self.edge, self.trap, self.op) {
+            (Some(edge), _, _) => edge.ending(),
+            (None, Some(t), _) => t,
+            (None, None, 69) => HALTED,
+            (None, None, _) => LIMIT,
         }
     }
 
     // Where a run of limit 1 with room for one cell says otherwise.
     fn difference(&self, ran: &Ran, cell: u64) -> Option<String> {
         let (op, ending, dumped) = (self.op, self.ending(), u64::from(self.dumped.is_some()));
+        let whose = if self.edge.is_some() { "document 01" } else { "Rust" };
         if ran.ending != ending || ran.steps != 1 || ran.dumped != dumped {
-            Some(format!("first byte {op}: Rust {ending} and {dumped} cells, ours {ran:?}"))
+            Some(format!("first byte {op}: {whose} {ending} and {dumped} cells, ours {ran:?}"))
         } else if self.dumped.is_some_and(|top| top != cell) {
             Some(format!("dumped cell: Rust {:X?}, ours {cell:X}", self.dumped))
         } else {
             None
         }
     }
+
+    // Where the machine isn't left as the Rust's.
+    fn left(&self, rust: &Mm, ours: &Machine) -> Option<String> {
+        let compared = self.edge.is_none_or(Edge::has_state);
+        let what = compared.then(|| first_difference(rust, ours)).flatten()?;
+        let edge = self.edge.map_or(String::new(), |edge| format!(" ({})", edge.why()));
+        Some(format!("after first byte {}{edge}: {what}", self.op))
+    }
+}
+
+// How many cells from the top on the step takes by their types: an integer operation's two operands, a conversion's one.
+fn operands(op: u64) -> usize {
+    match op {
+        _ if INTEGERS.contains(&op) => 2,
+        _ if CONVERSIONS.contains(&op) => 1,
+        _ => 0,
+    }
 }
 
 impl<'a> Both<'a> {
-    // One step of the Rust, or why it lies outside document 01's domain.
+    // What the Rust may panic at in this step, by document 01.
+    fn panic_at(&self, rust: &Mm<'a>, op: u64) -> Option<Edge> {
+        let unknown = rust.stack().iter().rev().take(operands(op)).any(|c| c.get_type().is_err());
+        let stream = (op == 46).then(|| self.rust[rust.probe_ip()].1.as_bytes()[1]);
+        match stream {
+            _ if unknown => Some(Edge::UnknownType),
+            Some(stream) if stream != 1 && stream != 2 => Some(Edge::Stream),
+            _ => None,
+        }
+    }
+
+    // One step of the Rust.
     fn take(&self, rust: &mut Mm<'a>, op: u64) -> Result<Taken, Verdict> {
         let top = rust.stack().back().map(|c| c.0.to_bits());
         let full = rust.stack().len() >= 1024 && [1, 11, 22].contains(&op);
         let deep = rust.probe_calls().len() >= 1024 && op == 28;
-        let went = catch_unwind(AssertUnwindSafe(|| rust.probe_step(self.rust)));
-        let trap = went.map_err(|_| Verdict::Outside("the Rust panics"))?.err().map(|t| number(&t)).transpose();
-        let trap = trap.map_err(Verdict::Differs)?;
-        if full && trap.is_none() || deep {
-            return Err(Verdict::Outside("a stack over 1,024"));
-        }
-        if FLOATS.contains(&op) && trap.is_none() && rust.stack().back().is_some_and(|c| c.0.is_nan()) {
-            return Err(Verdict::Outside("a float result that is a NaN"));
-        }
+        let panic_at = self.panic_at(rust, op);
+        let Ok(went) = catch_unwind(AssertUnwindSafe(|| rust.probe_step(self.rust))) else {
+            let Some(edge) = panic_at else {
+                return Err(Verdict::Differs(format!("first byte {op}: the Rust panics, and document 01 has neither 31 nor 32 there")));
+            };
+            return Ok(Taken { op, trap: None, dumped: None, edge: Some(edge) });
+        };
+        let trap = went.err().map(|t| number(&t)).transpose().map_err(Verdict::Differs)?;
+        let edge = match trap {
+            _ if deep => Some(Edge::Calls),
+            None if full => Some(Edge::Stack),
+            None if FLOATS.contains(&op) && replaced_nan(rust) => Some(Edge::NaN),
+            _ => None,
+        };
         let dumped = if trap.is_none() && op == 46 { top } else { None };
-        Ok(Taken { op, trap, dumped })
+        Ok(Taken { op, trap, dumped, edge })
     }
 
     // One step of both: they agree, or the comparison ends.
@@ -127,21 +178,22 @@ impl<'a> Both<'a> {
             return if ended { Ok(Step::Stop) } else { Err(Verdict::Differs(format!("a halted machine: {ran:?}"))) };
         }
         let taken = self.take(rust, op)?;
-        report.step(op as u8, taken.trap);
-        if let Some(what) = taken.difference(&ran, number_at(&dumps, 0)) {
-            return Err(Verdict::Differs(what));
+        let differs = taken.difference(&ran, number_at(&dumps, 0)).or_else(|| taken.left(rust, ours));
+        if taken.edge.is_none() {
+            report.step(op as u8, taken.trap);
         }
-        match first_difference(rust, ours) {
-            Some(what) => Err(Verdict::Differs(format!("after first byte {op}: {what}"))),
-            None if taken.trap.is_some() => Ok(Step::Stop),
-            None => Ok(Step::On),
+        match (differs, taken.edge) {
+            (Some(what), _) => Err(Verdict::Differs(what)),
+            (None, Some(edge)) => Err(Verdict::Outside(edge.why())),
+            (None, None) if taken.trap.is_some() => Ok(Step::Stop),
+            (None, None) => Ok(Step::On),
         }
     }
 
     // A trap is tried twice: a later run tries the same instruction again.
     fn steps(&self, mut rust: Mm<'a>, mut ours: Machine, report: &mut Report) -> Verdict {
         let mut tries = 0;
-        for _ in 0..STEPS {
+        for _ in 0..self.steps {
             match self.step(&mut rust, &mut ours, report) {
                 Err(verdict) => return verdict,
                 Ok(Step::Stop) if ours.is_halted() || tries == 1 => return Verdict::Agrees,
@@ -155,15 +207,15 @@ impl<'a> Both<'a> {
     // The same steps in runs of random limits and buffers leave the same machine and cells as one run.
     fn pieces(&self, fresh: &Machine, random: &mut Random, report: &mut Report) -> Verdict {
         let mut whole = fresh.clone();
-        let mut all = vec![0; STEPS as usize * NUMBER_SIZE];
-        let one = self.ours.run(&mut whole, STEPS, &mut all);
+        let mut all = vec![0; self.steps as usize * NUMBER_SIZE];
+        let one = self.ours.run(&mut whole, self.steps, &mut all);
         all.truncate(one.dumped as usize * NUMBER_SIZE);
         let mut ours = fresh.clone();
         let (mut left, mut cells, mut runs) = (one.steps, Vec::new(), 0);
         while left > 0 {
             runs += 1;
-            if runs > RUNS {
-                return Verdict::Differs(format!("in pieces: {RUNS} runs and still {left} steps to go"));
+            if runs > RUNS * self.steps {
+                return Verdict::Differs(format!("in pieces: {} runs and still {left} steps to go", runs - 1));
             }
             let limit = random.below(left + 1);
             let mut dumps = vec![0; random.below(4) as usize * NUMBER_SIZE];
@@ -223,10 +275,28 @@ fn load<'a>(image: &'a Vec<u8>, report: &mut Report) -> Result<(Program<'a>, Mac
     }
 }
 
+// What was written out loads again as the same program, or is one byte too long, by the HALT.
+fn loads_again(ours: &Program, machine: &Machine, written: &[u8], report: &mut Report) -> Option<String> {
+    let records = ours.count as usize * RECORD_SIZE;
+    match Program::load(written) {
+        Ok((again, fresh)) => {
+            report.again += 1;
+            let tables = again.insts[..records] == ours.insts[..records] && again.labels == ours.labels;
+            let same = again.count == ours.count && tables && fresh == *machine;
+            (!same).then(|| "the program written out and loaded again".to_string())
+        }
+        Err(1) if written.len() == IMAGE_MAX + 1 && ours.image.len() == IMAGE_MAX => {
+            report.too_long += 1;
+            None
+        }
+        Err(n) => Some(format!("the program written out, of {} bytes, is refused with {n}", written.len())),
+    }
+}
+
 // What both have after the load: the instructions, written out, and the machine.
-fn after_load(ours: &Program, machine: &Machine, rust: &Mm, program: &mm::Program) -> Option<String> {
+fn after_load(ours: &Program, machine: &Machine, rust: &Mm, program: &mm::Program, report: &mut Report) -> Option<String> {
     let written: Vec<u8> = program.iter().flat_map(|(_, inst)| inst.as_bytes()).collect();
-    let mut out = vec![0; 2 * 16_384];
+    let mut out = vec![0; ours.image.len() + 1];
     let answer = ours.encode(&mut out);
     if (answer.number, answer.size) != (0, written.len() as u64) || out[..written.len()] != written {
         return Some("the program written out".to_string());
@@ -234,26 +304,28 @@ fn after_load(ours: &Program, machine: &Machine, rust: &Mm, program: &mm::Progra
     if ours.count as usize != program.len() {
         return Some(format!("instructions: Rust {}, ours {}", program.len(), ours.count));
     }
-    first_difference(rust, machine).map(|what| format!("after the load: {what}"))
+    let loaded = first_difference(rust, machine).map(|what| format!("after the load: {what}"));
+    loaded.or_else(|| loads_again(ours, machine, &written, report))
 }
 
-fn judged(image: &Vec<u8>, random: &mut Random, report: &mut Report) -> Verdict {
+fn judged(image: &Vec<u8>, steps: u64, random: &mut Random, report: &mut Report) -> Verdict {
     let (ours, machine, rust, program) = match load(image, report) {
         Ok(both) => both,
         Err(verdict) => return verdict,
     };
-    if let Some(what) = after_load(&ours, &machine, &rust, &program) {
+    if let Some(what) = after_load(&ours, &machine, &rust, &program, report) {
         return Verdict::Differs(what);
     }
-    let both = Both { ours, rust: &program };
+    let both = Both { ours, rust: &program, steps };
     if let Verdict::Differs(what) = both.pieces(&machine, random, report) {
         return Verdict::Differs(what);
     }
     both.steps(rust, machine, report)
 }
 
-pub fn compare(image: &[u8], random: &mut Random, report: &mut Report) -> Verdict {
-    let verdict = judged(&image.to_vec(), random, report);
+/// The image in both for so many steps, and in pieces by `random`.
+pub fn compare(image: &[u8], steps: u64, random: &mut Random, report: &mut Report) -> Verdict {
+    let verdict = judged(&image.to_vec(), steps, random, report);
     match &verdict {
         Verdict::Outside(why) => *report.outside.entry(why).or_default() += 1,
         _ => report.images += 1,

@@ -44,7 +44,7 @@ fn rust(image: &Vec<u8>) -> String {
 fn main() {
     std::panic::set_hook(Box::new(|_| {}));
     let answer = |image: &[u8]| std::panic::catch_unwind(|| rust(&image.to_vec())).unwrap_or_else(|_| "panics".to_string());
-    let (report, passed) = page::report("the Rust", &page::rows(), |row| &row.there, answer);
+    let (report, passed) = page::report("the Rust", |row| &row.there, answer);
     writeln!(output::third(), "{report}").expect("a report");
     if !passed {
         std::process::exit(1);

@@ -1,6 +1,7 @@
 // The original beside ours: loads each image in both, and runs both step by step.
 // Usage: oracle-mm [SEED] [IMAGES]. The original prints to standard output and standard error, so the report goes to descriptor 3.
 mod compare;
+mod edge;
 mod images;
 #[path = "../lent.rs"]
 mod lent;
@@ -9,7 +10,7 @@ mod report;
 mod shrink;
 mod trap;
 
-use compare::{compare, Verdict};
+use compare::{compare, Verdict, BOUNDARY_STEPS, STEPS};
 use images::Random;
 use report::Report;
 use std::io::Write;
@@ -34,11 +35,12 @@ fn main() {
             Some(_) if random.one_in(4) => images::damaged(&mut random),
             Some(_) => images::lively(&mut random),
         };
+        let steps = if at < boundary.len() as u64 { BOUNDARY_STEPS } else { STEPS };
         let pieces = random.next();
-        if let Verdict::Differs(what) = compare(&image, &mut Random(pieces), &mut report) {
-            let differs = |bytes: &[u8]| matches!(compare(bytes, &mut Random(pieces), &mut Report::new()), Verdict::Differs(_));
-            let small = shrink::shrunk(&image, differs);
-            let small_what = compare(&small, &mut Random(pieces), &mut Report::new());
+        if let Verdict::Differs(what) = compare(&image, steps, &mut Random(pieces), &mut report) {
+            let again = |bytes: &[u8]| compare(bytes, steps, &mut Random(pieces), &mut Report::new());
+            let small = shrink::shrunk(&image, |bytes| matches!(again(bytes), Verdict::Differs(_)));
+            let small_what = again(&small);
             writeln!(out, "image {at} of seed {seed} differs: {what}\nshrunk: {}\n{small_what}", hex(&small)).expect("a report");
             std::process::exit(1);
         }

@@ -1,4 +1,5 @@
 // What was compared, how often, and what never was.
+use crate::edge::Edge;
 use std::collections::BTreeMap;
 use std::fmt;
 
@@ -6,6 +7,9 @@ pub struct Report {
     pub images: u64,
     pub steps: u64,
     pub pieces: u64,
+    // programs that were written out and loaded again, and those that were refused then for a byte too many
+    pub again: u64,
+    pub too_long: u64,
     pub instructions: BTreeMap<u8, u64>,
     pub traps: BTreeMap<u64, u64>,
     pub refusals: BTreeMap<u64, u64>,
@@ -19,6 +23,8 @@ impl Report {
             images: 0,
             steps: 0,
             pieces: 0,
+            again: 0,
+            too_long: 0,
             instructions: BTreeMap::new(),
             traps: BTreeMap::new(),
             refusals: BTreeMap::new(),
@@ -34,29 +40,34 @@ impl Report {
         }
     }
 
-    // Of what the Rust can show: all first bytes but NATIVE's, which it panics on, and 27, which it reads as 46.
+    // Of what the Rust can show: all first bytes but NATIVE's, which it panics on, and 27, which it reads as 46. Of the edges, every one.
     pub fn missing(&self) -> Vec<String> {
         let instructions = (0..=46u8).chain([69]).filter(|op| *op != 37 && *op != 27 && !self.instructions.contains_key(op));
         let traps = [20, 22, 24, 25, 26, 27, 28, 29, 30].into_iter().filter(|t| !self.traps.contains_key(t));
         let refusals = [2, 3, 7].into_iter().filter(|n| !self.refusals.contains_key(n));
+        let edges = Edge::ALL.into_iter().map(Edge::why).filter(|why| !self.outside.contains_key(why));
+        let too_long = (self.too_long == 0).then(|| "a program written out in 16,385 bytes".to_string());
         instructions
             .map(|op| format!("first byte {op}"))
             .chain(traps.map(|t| format!("trap {t}")))
             .chain(refusals.map(|n| format!("refusal {n}")))
+            .chain(edges.map(str::to_string))
+            .chain(too_long)
             .collect()
     }
 }
 
-fn counts<K: fmt::Display>(all: &BTreeMap<K, u64>) -> String {
-    all.iter().map(|(k, n)| format!("{k}: {n}")).collect::<Vec<_>>().join(", ")
+fn counts<K: fmt::Display>(all: &BTreeMap<K, u64>, between: &str) -> String {
+    all.iter().map(|(k, n)| format!("{k}: {n}")).collect::<Vec<_>>().join(between)
 }
 
 impl fmt::Display for Report {
     fn fmt(&self, f: &mut fmt::Formatter<'_>) -> fmt::Result {
         writeln!(f, "{} images and {} steps compared, {} images also in pieces", self.images, self.steps, self.pieces)?;
-        writeln!(f, "steps by first byte: {}", counts(&self.instructions))?;
-        writeln!(f, "traps: {}", counts(&self.traps))?;
-        writeln!(f, "refusals: {}", counts(&self.refusals))?;
-        write!(f, "left at the edge of the domain: {}", counts(&self.outside))
+        writeln!(f, "written out and loaded again: {} programs; in 16,385 bytes and refused: {}", self.again, self.too_long)?;
+        writeln!(f, "steps by first byte: {}", counts(&self.instructions, ", "))?;
+        writeln!(f, "traps: {}", counts(&self.traps, ", "))?;
+        writeln!(f, "refusals: {}", counts(&self.refusals, ", "))?;
+        write!(f, "left at the edge of the domain: {}", counts(&self.outside, "; "))
     }
 }

@@ -38,7 +38,7 @@ use Rattle.c_answers.specs.declared.Ran as c-answers
 use Rattle.c_answers.proofs.Ran as Ca
 use Rattle.c_answers.proofs.Ran.Laws as Ca′
 use Rattle.hand_proofs.proofs.Local.{Kind, Fit, same-is}
-use Rattle.label_run.proofs.Runs.{regs}
+use Rattle.step_core.specs.Parts.{registersOf}
 
 -- the arrays of a run, each with its width and its size: the machine's three, and the two of what a run learns
 abbrev pub Stack : Kind
@@ -149,10 +149,10 @@ ran-fits r is =
     record { machine = machine; ending = ending; steps = steps .1; dumped = dumped .1 }
 
 -- what is made: a machine's registers (ip, height, call_height), and c_answers' answer (ending, steps, dumped)
-pub regs-is : (m : Machine) → MachineIs m → Is Rg.the-row (regs m) (regs-val (regs m) ∷ [])
+pub regs-is : (m : Machine) → MachineIs m → Is Rg.the-row (registersOf m) (regs-val (registersOf m) ∷ [])
 regs-is m is =
     let f = machine-fits m is in
-    LL.owes Rg.the-type Rg′.the-laws (regs m) ((refl, f .ip), ((refl, f .height), ((refl, f .call-height), tt)))
+    LL.owes Rg.the-type Rg′.the-laws (registersOf m) ((refl, f .ip), ((refl, f .height), ((refl, f .call-height), tt)))
 
 pub c-ran-is : (x : c-answers.Ran) → x .ending < 2 ^ 64 → x .steps < 2 ^ 64 → x .dumped < 2 ^ 64 → Is Ca.the-row x (c-ran-val x ∷ [])
 c-ran-is x e s d = LL.owes Ca.the-type Ca′.the-laws x ((refl, e), ((refl, s), ((refl, d), tt)))

@@ -13,9 +13,8 @@ use Rattle.machine.specs.declared.Machine.{Machine}
 use Rattle.machine.specs.Lookup.{Program}
 use Rattle.machine.specs.Run as definition
 use Rattle.tables.specs.Tables.{instsOf}
-use Rattle.step_core.specs.declared.Registers.{Registers}
 use Rattle.step_core.specs.declared.LookedUp.{LookedUp}
-use Rattle.step_core.specs.Parts.{ofParts}
+use Rattle.step_core.specs.Parts.{ofParts, registersOf}
 use Rattle.lookup.specs.Walks.{lentProgram, Finds}
 use Rattle.known.specs.Known.{knownLimit, unknown}
 use Rattle.run.specs.declared.progress.Progress.{Progress}
@@ -27,10 +26,6 @@ use Rattle.run.proofs.Edges.{reports}
 use Rattle.run.proofs.Running.{ready}
 use Rattle.c_answers.specs.Endings.{endingNumber}
 use Rattle.label_run.specs.Runs.{ranBy}
-
--- the numbers of a machine, as `begin` takes them
-abbrev pub regs : Machine → Registers
-regs m = record { ip = m .ip; height = m .height; «call_height» = m .«call_height» }
 
 -- what `pack` returns
 abbrev pub packed : ℕ → Progress → List ℕ → List ℕ → List ℕ → Ran
@@ -49,7 +44,7 @@ module _ (image insts : List ℕ) (labels : List Label) (count limit : ℕ) (m :
     pub memory : List ℕ
     pub keys : List ℕ
     pub targets : List ℕ
-    pub stands : Stands program insts buffer limit (definition.course program limit (length buffer / 8) m) o dumps keys targets stack calls memory
+    pub stands : Stands program insts buffer limit (definition.course program limit (length buffer / 8) m) o dumps (arrays keys targets stack calls memory)
     pub long : length dumps ≡ length buffer
 
   abbrev pub Lower : State → State → Type 0
@@ -58,7 +53,7 @@ module _ (image insts : List ℕ) (labels : List Label) (count limit : ℕ) (m :
   pub falls : WellFounded Lower
   falls = InvImage·wf (λ (t : State). weight image (t .o)) (Nat·lt-wfRel .wf)
 
-  abbrev pub starts : length image < 2 ^ 64 → (r : Progress) → Begun insts count (regs m) (m .flags) (m .halted) limit r → State
+  abbrev pub starts : length image < 2 ^ 64 → (r : Progress) → Begun insts count (registersOf m) (m .flags) (m .halted) limit r → State
   starts fits r begun = record {
     o = r;
     dumps = buffer;

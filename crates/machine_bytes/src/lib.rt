@@ -9,7 +9,7 @@ ghost use lib.Seq.{sets};
 ghost use Rattle.tables.specs.Tables.{numbersIn, bytesOf};
 ghost use Rattle.step_core.specs.Parts.{callHeight, ofParts};
 ghost use Rattle.machine_bytes.specs.Layout.{machineSize, heightAt, isMachine, machineOf, machineBytes, Crosses};
-ghost use Rattle.machine_bytes.specs.Parts.{registersOf};
+ghost use Rattle.step_core.specs.Parts.{registersOf};
 use bytes::copy;
 use machine::CALL_LIMIT;
 use machine::MEMORY_SIZE;

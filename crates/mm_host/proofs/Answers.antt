@@ -13,12 +13,11 @@ use Rattle.loader.specs.declared.Loading.{Loading}
 use Rattle.loader.specs.declared.Loading.the-variants.{Refused, Accepted}
 use Rattle.loader.specs.Loading.{FromBinary, means, replyOf, freshAt, instsLeft, labelsLeft}
 use Rattle.step_core.specs.declared.Registers.{Registers}
-use Rattle.step_core.specs.Parts.{ofParts}
+use Rattle.step_core.specs.Parts.{ofParts, registersOf}
 use Rattle.run.specs.declared.progress.Progress.{Progress}
 use Rattle.run.specs.Runs.{ExecuteParts}
 use Rattle.c_answers.specs.declared.Ran.{Ran}
 use Rattle.machine_bytes.specs.Layout.{machineSize, isMachine, machineOf, machineBytes}
-use Rattle.machine_bytes.specs.Parts.{registersOf}
 use Rattle.mm_host.specs.Calls.{loadedBy, loadCall, ranBy, ranWith, runCall}
 
 -- a load that refuses, and one that accepts, whose machine m was written

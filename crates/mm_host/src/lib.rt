@@ -24,6 +24,7 @@ use machine_bytes::write_machine;
 use machine_bytes::write_parts;
 use run::ending;
 use run::execute_parts;
+use run::progress::HALTED;
 use run::progress::Progress;
 
 // What is lent is no machine; a number of our own.
@@ -108,7 +109,7 @@ pub extern "C" fn mm_run(
     let mut c = [0u64; CALL_LIMIT];
     let mut b = [0u8; MEMORY_SIZE];
     read_arrays(machine, &mut s, &mut c, &mut b);
-    let left = execute_parts(
+    let p = execute_parts(
         image,
         insts,
         labels,
@@ -122,8 +123,8 @@ pub extern "C" fn mm_run(
         &mut b,
         dumps,
     );
-    write_parts(left.regs, left.flags, left.ending == 0, &s, &c, &b, machine);
-    ran(left, limit)
+    write_parts(p.regs, p.flags, p.ending == HALTED, &s, &c, &b, machine);
+    ran(p, limit)
 }
 
 #[no_mangle]

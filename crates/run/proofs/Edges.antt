@@ -13,6 +13,7 @@ use Rattle.inst.specs.Records.{nameIn}
 use Rattle.inst.proofs.Laws.{never}
 use Rattle.machine.specs.declared.Label.{Label}
 use Rattle.machine.specs.declared.Machine.{Machine}
+use Rattle.machine.specs.Change.{callHeight}
 use Rattle.machine.specs.Limits.{stackLimit, callLimit}
 use Rattle.machine.specs.Lookup.{Program}
 use Rattle.machine.specs.Step.{wellState}
@@ -21,7 +22,7 @@ use Rattle.tables.specs.Tables.{numbersIn, inst, instsOf}
 use Rattle.tables.proofs.Laws.{length-records}
 use Rattle.tables.proofs.Bytes.{length-numbers-in}
 use Rattle.step_core.specs.declared.Registers.{Registers}
-use Rattle.step_core.specs.Parts.{callHeight, ofParts, Inside}
+use Rattle.step_core.specs.Parts.{ofParts, registersOf, Inside}
 use Rattle.lookup.specs.Walks.{lentProgram}
 use Rattle.known.specs.Known.{knownLimit, unknown, Known}
 use Rattle.run.specs.declared.progress.Progress.{Progress}
@@ -30,29 +31,30 @@ use Rattle.run.specs.Runs.{Reaches, Begins, runBytes, progressOf, Execut
 use Rattle.run.proofs.Courses.{more-none, halts, spends, ills, none-written}
 use Rattle.run.proofs.Running.{stands-over}
 
-module _ (image xs : List ℕ) (labels : List Label) (count : ℕ) (c : Registers) (f : ℕ) (s ca me : List ℕ) where
-  pub too-high : stackLimit < c .height → wellState (lentProgram image (instsOf xs) labels count) (ofParts c f s ca me false) ≡ false
+module _ (image xs : List ℕ) (labels : List Label) (count : ℕ) (m : Machine) where
+  pub too-high : stackLimit < m .height → wellState (lentProgram image (instsOf xs) labels count) m ≡ false
   unfolding wellState
   too-high h = rw (lt-leb _ _ h)
 
-  pub too-deep : callLimit < callHeight c → wellState (lentProgram image (instsOf xs) labels count) (ofParts c f s ca me false) ≡ false
+  pub too-deep : callLimit < callHeight m → wellState (lentProgram image (instsOf xs) labels count) m ≡ false
   unfolding wellState
   too-deep h = simp (lt-leb _ _ h, and-false)
 
-  pub too-many : length xs / 32 < count → wellState (lentProgram image (instsOf xs) labels count) (ofParts c f s ca me false) ≡ false
+  pub too-many : length xs / 32 < count → wellState (lentProgram image (instsOf xs) labels count) m ≡ false
   unfolding wellState
   too-many h = let l : length (instsOf xs) < count = omega (arith, length-records inst xs) in simp (lt-leb _ _ l, and-false)
 
--- a run that makes no step
-module _ (p : Program) (xs b : List ℕ) (limit : ℕ) (c : Registers) (f : ℕ) (h : Bool) (s ca me : List ℕ) where
-  at-once : (left kind number : ℕ) → left ≡ limit → h ≡ eqb kind 0 → IsOver (ending c f left 0 kind number) →
-      course p limit (length b / 8) (ofParts c f s ca me h) ≡ ended (endingOf kind number) (ofParts c f s ca me h) →
-      Begins p xs b limit c f h s ca me (ending c f left 0 kind number)
+-- a run of m that makes no step
+module _ (p : Program) (xs b : List ℕ) (limit : ℕ) (m : Machine) where
+  at-once : (left kind number : ℕ) → left ≡ limit → m .halted ≡ eqb kind 0 → IsOver (ending (registersOf m) (m .flags) left 0 kind number) →
+      course p limit (length b / 8) m ≡ ended (endingOf kind number) m → Begins p xs b limit m (ending (registersOf m) (m .flags) left 0 kind number)
   at-once left kind number q i o r =
       let z : limit - left ≡ 0 = omega arith in
       record {
-        stands = stands-over (replicate knownLimit unknown) (replicate knownLimit 0) (record {
-          is = ap (λ (n : ℕ). closed n (ending c f left 0 kind number) b s ca me) z ∙ ap (λ (x : Bool). ended (endingOf kind number) (ofParts c f s ca me x)) (sym i) ∙ sym r;
+        stands = stands-over (record {
+          is = ap (λ (n : ℕ). closed n (ending (registersOf m) (m .flags) left 0 kind number) b (m .stack) (m .calls) (m .memory)) z
+              ∙ ap (λ (x : Bool). ended (endingOf kind number) (ofParts (registersOf m) (m .flags) (m .stack) (m .calls) (m .memory) x)) (sym i)
+              ∙ sym r;
           long = refl;
           written = none-written b;
           fewer = omega arith;
@@ -61,14 +63,14 @@ module _ (p : Program) (xs b : List ℕ) (limit : ℕ) (c : Registers) (f : ℕ)
         });
       }
 
-  pub begins-halted : h ≡ true → Begins p xs b limit c f h s ca me (ending c f limit 0 0 0)
-  begins-halted i = at-once limit 0 0 refl i refl (halts p limit (length b / 8) (ofParts c f s ca me h) i)
+  pub begins-halted : m .halted ≡ true → Begins p xs b limit m (ending (registersOf m) (m .flags) limit 0 0 0)
+  begins-halted i = at-once limit 0 0 refl i refl (halts p limit (length b / 8) m i)
 
-  pub begins-spent : h ≡ false → limit ≡ 0 → Begins p xs b limit c f h s ca me (ending c f 0 0 1 0)
-  begins-spent i z = at-once 0 1 0 (sym z) i refl (spends p limit (length b / 8) (ofParts c f s ca me h) i z)
+  pub begins-spent : m .halted ≡ false → limit ≡ 0 → Begins p xs b limit m (ending (registersOf m) (m .flags) 0 0 1 0)
+  begins-spent i z = at-once 0 1 0 (sym z) i refl (spends p limit (length b / 8) m i z)
 
-  pub begins-ill : h ≡ false → (limit ≡ 0 → ⊥) → wellState p (ofParts c f s ca me false) ≡ false → Begins p xs b limit c f h s ca me (ending c f limit 0 2 34)
-  begins-ill i z w = at-once limit 2 34 refl i refl (ills p limit (length b / 8) (ofParts c f s ca me h) i (omega (arith, z)) (rw i w))
+  pub begins-ill : m .halted ≡ false → (limit ≡ 0 → ⊥) → wellState p m ≡ false → Begins p xs b limit m (ending (registersOf m) (m .flags) limit 0 2 34)
+  begins-ill i z w = at-once limit 2 34 refl i refl (ills p limit (length b / 8) m i (omega (arith, z)) w)
 
 -- a fresh array knows nothing
 nothing : (p : Program) (xs targets : List ℕ) → Known p xs (replicate knownLimit unknown) targets
@@ -82,7 +84,7 @@ outside image h = rw (lt-leb (0xFFFFFFFFFFFFFFFF + 0xFFFFFFFFFFFFFFFF) (length i
 -- a run that makes steps
 pub begins-on : (image xs : List ℕ) (labels : List Label) (count : ℕ) (b : List ℕ) (limit : ℕ) (c : Registers) (f : ℕ) (h : Bool) (s ca me : List ℕ) → length image < 2 ^ 64 →
     h ≡ false → Inside c → count * 32 ≤ length xs →
-    Begins (lentProgram image (instsOf xs) labels count) xs b limit c f h s ca me (asking c f limit 0 0xFFFFFFFFFFFFFFFF 0xFFFFFFFFFFFFFFFF)
+    Begins (lentProgram image (instsOf xs) labels count) xs b limit (ofParts c f s ca me h) (asking c f limit 0 0xFFFFFFFFFFFFFFFF 0xFFFFFFFFFFFFFFFF)
 begins-on image xs labels count b limit c f h s ca me fits i small inside =
     let z : limit - limit ≡ 0 = omega arith in
     record {

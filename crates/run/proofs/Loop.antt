@@ -14,7 +14,7 @@ use Rattle.tables.specs.Tables.{instsOf, instOf}
 use Rattle.step_core.specs.declared.Registers.{Registers}
 use Rattle.step_core.specs.declared.LookedUp.{LookedUp}
 use Rattle.step_core.specs.declared.LookedUp.the-variants.{NotAsked}
-use Rattle.step_core.specs.Parts.{ofParts, Inside, foundOf, isAsked}
+use Rattle.step_core.specs.Parts.{Inside, foundOf, isAsked}
 use Rattle.lookup.specs.Walks.{lentProgram}
 use Rattle.quick.specs.declared.Reached.{Reached}
 use Rattle.known.specs.Known.{Sized, Listed}
@@ -26,36 +26,33 @@ use Rattle.run.specs.declared.progress.Progress.{Progress}
 use Rattle.run.specs.declared.follows.Turn.{Turn}
 use Rattle.run.specs.declared.follows.Turn.the-variants.{Go, End}
 use Rattle.run.specs.Turns.{FollowsTry, ending}
-use Rattle.run.specs.Runs.{Running, Stands, weight, Advances}
+use Rattle.run.specs.Runs.{machineAt, reachedBy, Running, Stands, weight, Advances}
 use Rattle.run.proofs.Running.{is-over, known-on, went, ended-by, off, stands-over}
 
 -- the weight that a run has at first, with what was found
 abbrev first : ℕ → LookedUp → ℕ
 first left asked = left + cond (isAsked asked) 1 2
 
--- From c₀, f₀ and so on, at which `asked` was found, the loop has come to c, f and so on. Whatever the labels are: if the run stood there, it stands here
-pub record Loops (image xs : List ℕ) (count : ℕ) (c₀ : Registers) (f₀ left₀ n₀ : ℕ) (asked : LookedUp) (b₀ keys₀ targets₀ s₀ ca₀ me₀ : List ℕ)
-    (c : Registers) (f left n : ℕ) (found : LookedUp) (b keys targets s ca me : List ℕ) : Type 0 where
-  pub small : Inside c
+-- From r₀ and so on, at which `asked` was found, the loop has come to r and so on. Whatever the labels are: if the run stood there, it stands here
+pub record Loops (image xs : List ℕ) (count : ℕ) (r₀ : Reached) (n₀ : ℕ) (asked : LookedUp) (b₀ : List ℕ) (a₀ : Arrays)
+    (r : Reached) (n : ℕ) (found : LookedUp) (b : List ℕ) (a : Arrays) : Type 0 where
+  pub small : Inside (r .regs)
   pub filled : n * 8 ≤ length b
   pub long : length b ≡ length b₀
-  pub sized : Sized keys targets
-  pub listed : Listed xs keys targets
-  pub fewer : left ≤ left₀
-  pub lighter : isAsked found ≡ false → left + 1 < first left₀ asked
+  pub sized : Sized (a .keys) (a .targets)
+  pub listed : Listed xs (a .keys) (a .targets)
+  pub fewer : r .left ≤ r₀ .left
+  pub lighter : isAsked found ≡ false → r .left + 1 < first (r₀ .left) asked
   pub runs : (labels : List Label) (buffer : List ℕ) (limit : ℕ) (run : Course) →
-      Running (lentProgram image (instsOf xs) labels count) xs buffer limit run c₀ f₀ left₀ n₀ b₀ keys₀ targets₀ s₀ ca₀ me₀ →
-      Told (lentProgram image (instsOf xs) labels count) xs (c₀ .ip) asked →
-      Running (lentProgram image (instsOf xs) labels count) xs buffer limit run c f left n b keys targets s ca me × Told (lentProgram image (instsOf xs) labels count) xs (c .ip) found
+      Running (lentProgram image (instsOf xs) labels count) xs buffer limit run r₀ n₀ b₀ a₀ → Told (lentProgram image (instsOf xs) labels count) xs (r₀ .regs .ip) asked →
+      Running (lentProgram image (instsOf xs) labels count) xs buffer limit run r n b a × Told (lentProgram image (instsOf xs) labels count) xs (r .regs .ip) found
 
--- it ended with r
-pub record Stops (image xs : List ℕ) (count : ℕ) (c₀ : Registers) (f₀ left₀ n₀ : ℕ) (asked : LookedUp) (b₀ keys₀ targets₀ s₀ ca₀ me₀ : List ℕ)
-    (r : Progress) (b keys targets s ca me : List ℕ) : Type 0 where
+-- it ended with o
+pub record Stops (image xs : List ℕ) (count : ℕ) (r₀ : Reached) (n₀ : ℕ) (asked : LookedUp) (b₀ : List ℕ) (a₀ : Arrays) (o : Progress) (b : List ℕ) (a : Arrays) : Type 0 where
   pub stops : (labels : List Label) (buffer : List ℕ) (limit : ℕ) (run : Course) →
-      Running (lentProgram image (instsOf xs) labels count) xs buffer limit run c₀ f₀ left₀ n₀ b₀ keys₀ targets₀ s₀ ca₀ me₀ →
-      Told (lentProgram image (instsOf xs) labels count) xs (c₀ .ip) asked →
-      Stands (lentProgram image (instsOf xs) labels count) xs buffer limit run r b keys targets s ca me
-      × (r .on ≡ true → (nameIn image (r .start) (r .len) ≡ true) × (r .left + 1 < first left₀ asked))
+      Running (lentProgram image (instsOf xs) labels count) xs buffer limit run r₀ n₀ b₀ a₀ → Told (lentProgram image (instsOf xs) labels count) xs (r₀ .regs .ip) asked →
+      Stands (lentProgram image (instsOf xs) labels count) xs buffer limit run o b a
+      × (o .on ≡ true → (nameIn image (o .start) (o .len) ≡ true) × (o .left + 1 < first (r₀ .left) asked))
 
 not-go : {on : Registers} {g n : ℕ} {o : Progress} → Go on g n ≡ End o → ⊥
 not-go e = let z : _≡_ {A = ℕ} 0 1 = cc in omega arith
@@ -78,10 +75,9 @@ module _ {c : Registers} {f left n : ℕ} {b b' : List ℕ} where
   end-long (Asks start len) q = ap length (q .followed .1)
 
 module _ {image xs : List ℕ} {count : ℕ} where
-  pub loop-starts : (c : Registers) (f left n : ℕ) (asked : LookedUp) (b keys targets s ca me : List ℕ) → Inside c → n * 8 ≤ length b → Sized keys targets →
-      Listed xs keys targets →
-      Loops image xs count c f left n asked b keys targets s ca me c f left n asked b keys targets s ca me
-  loop-starts c f left n asked b keys targets s ca me small filled sized listed =
+  pub loop-starts : (r : Reached) (n : ℕ) (asked : LookedUp) (b : List ℕ) (a : Arrays) → Inside (r .regs) → n * 8 ≤ length b → Sized (a .keys) (a .targets) →
+      Listed xs (a .keys) (a .targets) → Loops image xs count r n asked b a r n asked b a
+  loop-starts r n asked b a small filled sized listed =
       record {
         small = small;
         filled = filled;
@@ -90,31 +86,31 @@ module _ {image xs : List ℕ} {count : ℕ} where
         listed = listed;
         fewer = omega arith;
         lighter = λ z. rw z (omega arith);
-        runs = λ labels buffer limit run r told. (r, told);
+        runs = λ labels buffer limit run at told. (at, told);
       }
 
-  module _ {c₀ : Registers} {f₀ left₀ n₀ : ℕ} {asked : LookedUp} {b₀ keys₀ targets₀ s₀ ca₀ me₀ : List ℕ} {c : Registers} {f left n : ℕ} {found : LookedUp} {b keys targets s ca me : List ℕ}
-      (inv : Loops image xs count c₀ f₀ left₀ n₀ asked b₀ keys₀ targets₀ s₀ ca₀ me₀ c f left n found b keys targets s ca me) where
-    some-weight : left < first left₀ asked
+  module _ {r₀ : Reached} {n₀ : ℕ} {asked : LookedUp} {b₀ : List ℕ} {a₀ : Arrays} {r : Reached} {n : ℕ} {found : LookedUp} {b : List ℕ} {a : Arrays}
+      (inv : Loops image xs count r₀ n₀ asked b₀ a₀ r n found b a) where
+    some-weight : r .left < first (r₀ .left) asked
     some-weight = by (isAsked asked)
       where
-        by : (x : Bool) → left < left₀ + cond x 1 2
+        by : (x : Bool) → r .left < r₀ .left + cond x 1 2
         by true = omega (arith, inv .fewer)
         by false = omega (arith, inv .fewer)
 
     -- no step is left
-    pub loop-over : left ≡ 0 → Stops image xs count c₀ f₀ left₀ n₀ asked b₀ keys₀ targets₀ s₀ ca₀ me₀ (ending c f 0 n 1 0) b keys targets s ca me
+    pub loop-over : r .left ≡ 0 → Stops image xs count r₀ n₀ asked b₀ a₀ (ending (r .regs) (r .flags) 0 n 1 0) b a
     loop-over z =
-        record { stops = λ labels buffer limit run r told. (stands-over keys targets (is-over (inv .runs labels buffer limit run r told .0) z), λ e. never e) }
+        record { stops = λ labels buffer limit run at told. (stands-over (is-over (inv .runs labels buffer limit run at told .0) z), λ e. never e) }
 
-    module _ (l : 0 < left) {keys' targets' s' ca' me' b' : List ℕ} where
+    module _ (l : 0 < r .left) {a' : Arrays} {b' : List ℕ} where
       -- a step, and the known ones behind it
-      pub loop-on : (t : Tried) {on : Registers} {g n' : ℕ} {r : Reached} {s2 ca2 me2 : List ℕ} →
-          Tries image xs count c f found (arrays keys targets s ca me) t (arrays keys' targets' s' ca' me') → FollowsTry t c f left n b b' (Go on g n') →
-          quick.Leads xs keys' targets' (ofParts on g s' ca' me' false) (left - 1) r s2 ca2 me2 →
-          Loops image xs count c₀ f₀ left₀ n₀ asked b₀ keys₀ targets₀ s₀ ca₀ me₀ (r .regs) (r .flags) (r .left) n' NotAsked b' keys' targets' s2 ca2 me2
+      pub loop-on : (t : Tried) {on : Registers} {g n' : ℕ} {r' : Reached} {s2 ca2 me2 : List ℕ} →
+          Tries image xs count (r .regs) (r .flags) found a t a' → FollowsTry t (r .regs) (r .flags) (r .left) n b b' (Go on g n') →
+          quick.Leads xs (a' .keys) (a' .targets) (machineAt (record { regs = on; left = r .left - 1; flags = g }) a') (r .left - 1) r' s2 ca2 me2 →
+          Loops image xs count r₀ n₀ asked b₀ a₀ r' n' NotAsked b' (arrays (a' .keys) (a' .targets) s2 ca2 me2)
       loop-on (Asks start len) tries q k = absurd (not-go (q .followed .0))
-      loop-on (Done a) tries q k =
+      loop-on (Done x) tries q k =
           let fills = q .followed .followed .2 in
           record {
             small = k .small;
@@ -124,38 +120,37 @@ module _ {image xs : List ℕ} {count : ℕ} where
             listed = tries .listed;
             fewer = omega (arith, k .fewer, inv .fewer);
             lighter = λ z. omega (arith, k .fewer, some-weight);
-            runs = λ labels buffer limit run r told.
-                let now = inv .runs labels buffer limit run r told in
+            runs = λ labels buffer limit run at told.
+                let now = inv .runs labels buffer limit run at told in
                 let made = tries .tried labels (now .1) in
-                (known-on (went (now .0) l (made .0) (tries .sized) (made .1) (q .followed)) k, λ some. never some);
+                (known-on (went (now .0) l a' (made .0) (tries .sized) (made .1) (q .followed)) k, λ some. never some);
           }
 
       -- a step, and the end; or a question
       pub loop-stops : (t : Tried) {o : Progress} →
-          Tries image xs count c f found (arrays keys targets s ca me) t (arrays keys' targets' s' ca' me') → FollowsTry t c f left n b b' (End o) →
-          Stops image xs count c₀ f₀ left₀ n₀ asked b₀ keys₀ targets₀ s₀ ca₀ me₀ o b' keys' targets' s' ca' me'
-      loop-stops (Done a) tries q =
+          Tries image xs count (r .regs) (r .flags) found a t a' → FollowsTry t (r .regs) (r .flags) (r .left) n b b' (End o) →
+          Stops image xs count r₀ n₀ asked b₀ a₀ o b' a'
+      loop-stops (Done x) tries q =
           record {
-            stops = λ labels buffer limit run r told.
-                let now = inv .runs labels buffer limit run r told in
+            stops = λ labels buffer limit run at told.
+                let now = inv .runs labels buffer limit run at told in
                 let made = tries .tried labels (now .1) in
-                (stands-over keys' targets' (ended-by (now .0) l (made .0) (q .followed)), λ e. never (sym (off (q .followed .followed .2)) ∙ e));
+                (stands-over (ended-by (now .0) l a' (made .0) (q .followed)), λ e. never (sym (off (q .followed .followed .2)) ∙ e));
           }
       loop-stops (Asks start len) tries q =
           rw (end-of (q .followed .0), q .followed .1) (record {
-            stops = λ labels buffer limit run r told.
-                let now = inv .runs labels buffer limit run r told in
+            stops = λ labels buffer limit run at told.
+                let now = inv .runs labels buffer limit run at told in
                 let asks = tries .tried labels (now .1) in (
-                  let same = asks .3 in rw (ap (λ (x : Arrays). x .keys) same, ap (λ (x : Arrays). x .targets) same, ap (λ (x : Arrays). x .stack) same, ap (λ (x : Arrays). x .calls) same, ap (λ (x : Arrays). x .memory) same) (record { running = λ e. now .0; named = λ e g. asks .2; reached = λ e. never (sym e) }),
+                  rw (asks .3) (record { running = λ e. now .0; named = λ e g. asks .2; reached = λ e. never (sym e) }),
                   λ e. (asks .1, inv .lighter (asks .0)),
                 );
           })
 
   -- the contract of `steps`
-  pub advances : {o : Progress} {asked : LookedUp} {b keys targets s ca me : List ℕ} {r : Progress} {b' keys' targets' s' ca' me' : List ℕ} →
-      Stops image xs count (o .regs) (o .flags) (o .left) (o .dumped) asked b keys targets s ca me r b' keys' targets' s' ca' me' →
-      Advances image xs count o asked b (arrays keys targets s ca me) r b' (arrays keys' targets' s' ca' me')
-  advances {o} {asked} {b} {keys} {targets} {s} {ca} {me} {r} q labels buffer limit run on st fd =
+  pub advances : {o : Progress} {asked : LookedUp} {b : List ℕ} {a : Arrays} {r : Progress} {b' : List ℕ} {a' : Arrays} →
+      Stops image xs count (reachedBy o) (o .dumped) asked b a r b' a' → Advances image xs count o asked b a r b' a'
+  advances {o} {asked} {b} {a} {r} q labels buffer limit run on st fd =
       record { stands = q .stops labels buffer limit run (st .running on) told .0; falls = by (nameIn image (o .start) (o .len)) (r .on) refl refl }
     where
       which : isAsked asked ≡ true → (x : Bool) → nameIn image (o .start) (o .len) ≡ x → foundOf asked ≡ lookup (lentProgram image (instsOf xs) labels count) (instOf xs (o .regs .ip))

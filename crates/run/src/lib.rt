@@ -58,7 +58,7 @@ fn is_ill(insts: &[u8], count: usize, regs: Registers) -> bool
     insts.len() / RECORD < count
 }
 
-// The endings before the first step, in order; or the run goes on. It asks for nothing yet.
+// The endings before the first step, in order; or the run goes on. It asks for nothing yet. Only our own crates call it.
 pub fn begin(
     insts: &[u8],
     count: usize,
@@ -86,6 +86,7 @@ pub fn begin(
 // - the limit less `left` steps lead to the machine of registers, flags and the arrays, with dumps[..n] dumped;
 // - heights are within their limits;
 // - what crate known says of keys and targets.
+// Only our own crates call it, and prove what it requires.
 pub fn steps(
     image: &[u8],
     insts: &[u8],
@@ -156,13 +157,13 @@ pub fn ending(kind: u8, number: u8) -> Ending
     ensures { λ r. ⌜ r ≡ endingOf kind number ⌝ }
 {
     match kind {
-        0 => Ending::Halted,
-        1 => Ending::Limit,
+        HALTED => Ending::Halted,
+        LIMIT => Ending::Limit,
         _ => Ending::Number(number),
     }
 }
 
-// The machine and what a run returns, from the parts of a run that is over.
+// What a run returns, from the parts of one that is over. Only our own crates call it, and prove what it requires.
 pub fn pack(
     stack: [u64; STACK_LIMIT],
     calls: [u64; CALL_LIMIT],

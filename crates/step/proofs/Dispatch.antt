@@ -104,58 +104,32 @@ in-jumps op l a b = from (leb 12 op) (leb op 20) refl refl (rw (ne-eqb op 28 b) 
     from true false p q h = never h
     from false y p q h = never h
 
--- 12 to 19 are conditional jumps
-jcc-from : (k op : ℕ) → k < 8 → op ≡ 12 + k → opOf op ≡ JCC
-unfolding opOf
-jcc-from zero op l e = rw e refl
-jcc-from (suc zero) op l e = rw e refl
-jcc-from (suc (suc zero)) op l e = rw e refl
-jcc-from (suc (suc (suc zero))) op l e = rw e refl
-jcc-from (suc (suc (suc (suc zero)))) op l e = rw e refl
-jcc-from (suc (suc (suc (suc (suc zero))))) op l e = rw e refl
-jcc-from (suc (suc (suc (suc (suc (suc zero)))))) op l e = rw e refl
-jcc-from (suc (suc (suc (suc (suc (suc (suc zero))))))) op l e = rw e refl
-jcc-from (suc (suc (suc (suc (suc (suc (suc (suc k)))))))) op l e = absurd (omega arith)
+-- P of n numbers from i on, and of each of them
+abbrev Each : (ℕ → Type 0) → ℕ → ℕ → Type 0
+Each P i zero = Unit
+Each P i (suc n) = P i × Each P (suc i) n
 
+each : (P : ℕ → Type 0) (n i k op : ℕ) → Each P i n → k < n → op ≡ i + k → P op
+each P zero i k op h l e = absurd (omega arith)
+each P (suc n) i zero op h l e = let q : op ≡ i = omega arith in rw q (h .0)
+each P (suc n) i (suc k) op h l e = each P n (suc i) k op (h .1) (omega arith) (omega arith)
+
+-- the ranges of first bytes
 pub jcc-at : (op : ℕ) → 12 ≤ op → op ≤ 19 → opOf op ≡ JCC
-jcc-at op a b = jcc-from (op - 12) op (omega arith) (omega arith)
-
--- the families
-
-integer-from : (k op : ℕ) → k < 4 → op ≡ 5 + k → opOf op ≡ integer (integerOf op)
 unfolding opOf
-integer-from zero op l e = rw e refl
-integer-from (suc zero) op l e = rw e refl
-integer-from (suc (suc zero)) op l e = rw e refl
-integer-from (suc (suc (suc zero))) op l e = rw e refl
-integer-from (suc (suc (suc (suc k)))) op l e = absurd (omega arith)
+jcc-at op a b = each (λ (x : ℕ). opOf x ≡ JCC) 8 12 (op - 12) op (refl, (refl, (refl, (refl, (refl, (refl, (refl, (refl, tt)))))))) (omega arith) (omega arith)
 
 pub integer-at : (op : ℕ) → 5 ≤ op → op ≤ 8 → opOf op ≡ integer (integerOf op)
-integer-at op a b = integer-from (op - 5) op (omega arith) (omega arith)
-
-float-from : (k op : ℕ) → k < 4 → op ≡ 23 + k → opOf op ≡ float (floatOf op)
 unfolding opOf
-float-from zero op l e = rw e refl
-float-from (suc zero) op l e = rw e refl
-float-from (suc (suc zero)) op l e = rw e refl
-float-from (suc (suc (suc zero))) op l e = rw e refl
-float-from (suc (suc (suc (suc k)))) op l e = absurd (omega arith)
+integer-at op a b = each (λ (x : ℕ). opOf x ≡ integer (integerOf x)) 4 5 (op - 5) op (refl, (refl, (refl, (refl, tt)))) (omega arith) (omega arith)
 
 pub float-at : (op : ℕ) → 23 ≤ op → op ≤ 26 → opOf op ≡ float (floatOf op)
-float-at op a b = float-from (op - 23) op (omega arith) (omega arith)
-
-conversion-from : (k op : ℕ) → k < 6 → op ≡ 31 + k → opOf op ≡ conversion (conversionOf op)
 unfolding opOf
-conversion-from zero op l e = rw e refl
-conversion-from (suc zero) op l e = rw e refl
-conversion-from (suc (suc zero)) op l e = rw e refl
-conversion-from (suc (suc (suc zero))) op l e = rw e refl
-conversion-from (suc (suc (suc (suc zero)))) op l e = rw e refl
-conversion-from (suc (suc (suc (suc (suc zero))))) op l e = rw e refl
-conversion-from (suc (suc (suc (suc (suc (suc k)))))) op l e = absurd (omega arith)
+float-at op a b = each (λ (x : ℕ). opOf x ≡ float (floatOf x)) 4 23 (op - 23) op (refl, (refl, (refl, (refl, tt)))) (omega arith) (omega arith)
 
 pub conversion-at : (op : ℕ) → 31 ≤ op → op ≤ 36 → opOf op ≡ conversion (conversionOf op)
-conversion-at op a b = conversion-from (op - 31) op (omega arith) (omega arith)
+unfolding opOf
+conversion-at op a b = each (λ (x : ℕ). opOf x ≡ conversion (conversionOf x)) 6 31 (op - 31) op (refl, (refl, (refl, (refl, (refl, (refl, tt)))))) (omega arith) (omega arith)
 
 pub dump-at : (op : ℕ) → (op ≡ 27) ⊎ (op ≡ 46) → opOf op ≡ DMP
 unfolding opOf

@@ -22,6 +22,10 @@ abbrev pub ofParts : Registers → ℕ → List ℕ → List ℕ → List ℕ �
 ofParts c f s ca me h =
     record { stack = s; height = c .height; calls = ca; «call_height» = callHeight c; memory = me; flags = f; ip = c .ip; halted = h }
 
+-- pointer and heights of a machine
+abbrev pub registersOf : Machine → Registers
+registersOf m = record { ip = m .ip; height = m .height; «call_height» = m .«call_height» }
+
 -- what an answer to a step with the flags f means, with the arrays that it leaves
 abbrev pub means : ℕ → Executed → List ℕ → List ℕ → List ℕ → Stepped
 means f (Next n) s ca me = succeeds (ofParts n f s ca me false)

@@ -94,7 +94,8 @@ use Rattle.hand_proofs.proofs.Again.{LentAgain, lends-again, comes-back}
 use Rattle.hand_proofs.proofs.Local.{array, Numbers, numbers, Fit, Lent, array-typed, lend, back, owns-array, repeats, fills}
 use Rattle.hand_proofs.proofs.Whole.{by-walk, at-code, callee, whole}
 use Rattle.hand_proofs.proofs.Words.{place, behind, sink, word, thin, slice, Slot, empty, holds, env, locals, local, part, _&_, none, pointer, lets, keeps, full1, past, aside, taken, number, made, shared, answers-last, replies}
-use Rattle.label_run.proofs.Runs.{regs, packed, program, State, Lower, falls, starts, is-ready, onward, lower, fewer, over}
+use Rattle.step_core.specs.Parts.{registersOf}
+use Rattle.label_run.proofs.Runs.{packed, program, State, Lower, falls, starts, is-ready, onward, lower, fewer, over}
 use Rattle.label_run.proofs.Fields.{Stack, Calls, Memory, Keys, Targets, machine-val, MachineIs, machine-fits, found-val, FoundIs, regs-val, regs-is, progress-val, ProgressIs, start-fits, len-fits, ran-val, RanIs}
 use Rattle.label_run.proofs.lookup as lookup
 use Rattle.label_run.proofs.lookup.Symbol.{name as #label-run·lookup}
@@ -257,10 +258,10 @@ module _ {M : Type 1} (𝓤 : URA M) (H : Heap 𝓤) (A : Atoms 𝓤) (W : Given
 
   -- ---- the call of `begin`
   abbrev args-begin : RefT (List ℕ) × (ℕ × (Registers × (ℕ × (Bool × (ℕ × Unit {0})))))
-  args-begin = (ins, (c, (regs m, (m .flags, (m .halted, (limit, tt))))))
+  args-begin = (ins, (c, (registersOf m, (m .flags, (m .halted, (limit, tt))))))
 
   abbrev sent-begin : List Val × (List Val × (List Val × (List Val × (List Val × (List Val × Unit {0})))))
-  sent-begin = (iv ∷ [], (vint w64 c ∷ [], (regs-val (regs m) ∷ [], (vint w8 (m .flags) ∷ [], (vbool (m .halted) ∷ [], (vint w64 limit ∷ [], tt))))))
+  sent-begin = (iv ∷ [], (vint w64 c ∷ [], (regs-val (registersOf m) ∷ [], (vint w8 (m .flags) ∷ [], (vbool (m .halted) ∷ [], (vint w64 limit ∷ [], tt))))))
 
   abbrev to-begin : Begin 𝓤 H A mem run .Ghost
   to-begin = (((κ₁, tt), (q₁, tt), tt, args-begin, sent-begin), tt)
@@ -279,7 +280,7 @@ module _ {M : Type 1} (𝓤 : URA M) (H : Heap 𝓤) (A : Atoms 𝓤) (W : Given
       qed W From-begin ∵ move ! (1 ∷ []) $ shared ! (named 1) κ₁ u8 ins (iv ∷ []) $
       -- [the instructions twice; κ₁]
       nothing ! $ number ! w64 limit fl $ fjoin ! $ owned ! bool (Is bool) (bool-makes 𝓤 H A W) (m .halted) _ refl $ fjoin ! $ number ! w8 (m .flags) (machine-fits m is-m .flags) $ fjoin ! $
-      made ! Rg.the-type Rg′.the-plain (regs m) _ (regs-is m is-m) $ fjoin ! $ number ! w64 c fc $ fjoin ! $ move ! (1 ∷ 0 ∷ []) $ fjoin ! $
+      made ! Rg.the-type Rg′.the-plain (registersOf m) _ (regs-is m is-m) $ fjoin ! $ number ! w64 c fc $ fjoin ! $ move ! (1 ∷ 0 ∷ []) $ fjoin ! $
       -- [what is passed; the instructions; κ₁]
       nothing ! $ move ! (3 ∷ 0 ∷ []) $ join ! $
       use2 W (raw (Begin 𝓤 H A mem run .pre to-begin)) (qed W (Tokens-begin ∷ ‵ (owns (ShrSlice (named 0) κ₁ u8 ∷ usize ∷ Rg.the-row ∷ u8 ∷ bool ∷ u64 ∷ []) args-begin sent-begin) ∷ []) ∵ join ! $ frame ! $ done !) $ frame ! $ done !
@@ -319,7 +320,7 @@ module _ {M : Type 1} (𝓤 : URA M) (H : Heap 𝓤) (A : Atoms 𝓤) (W : Given
     first-locals = parameters d₀ (empty Rg′.mir l₈ ∷ empty (array Stack) l₉ ∷ empty (array Calls) l₁₀ ∷ empty (array Memory) l₁₁ ∷ empty (array Keys) l₁₂ ∷ empty (array Targets) l₁₃ ∷ empty Pg′.mir l₁₄ ∷ passing)
 
     abbrev turn-locals : Run → List Slot
-    turn-locals s = parameters (s .dumps) (holds Rg′.mir l₈ (regs-val (regs m)) ∷ holds (array Stack) l₉ (numbers Stack (s .stack)) ∷ holds (array Calls) l₁₀ (numbers Calls (s .calls)) ∷ holds (array Memory) l₁₁ (numbers Memory (s .memory))
+    turn-locals s = parameters (s .dumps) (holds Rg′.mir l₈ (regs-val (registersOf m)) ∷ holds (array Stack) l₉ (numbers Stack (s .stack)) ∷ holds (array Calls) l₁₀ (numbers Calls (s .calls)) ∷ holds (array Memory) l₁₁ (numbers Memory (s .memory))
         ∷ holds (array Keys) l₁₂ (numbers Keys (s .keys)) ∷ holds (array Targets) l₁₃ (numbers Targets (s .targets)) ∷ holds Pg′.mir l₁₄ (progress-val (s .o)) ∷ passing)
 
     abbrev E : Env 𝓤 H
@@ -465,7 +466,7 @@ module _ {M : Type 1} (𝓤 : URA M) (H : Heap 𝓤) (A : Atoms 𝓤) (W : Given
     begins is-keys is-targets =
         let f = machine-fits m is-m in
         -- [dumps; κ₃; the image; κ₀; the instructions; κ₁; the labels; κ₂]: regs, the machine's arrays, and two that know nothing
-        lets ! (agg ! (part ! (at 8 5) refl refl refl & part ! (at 8 5) refl refl refl & part ! (at 8 5) refl refl refl & none)) (init ! (at 8 8) refl (LL.lawful Rg.the-type Rg′.the-laws 𝓤 H A W .typed (regs m) _ (regs-is m is-m) .0)) $
+        lets ! (agg ! (part ! (at 8 5) refl refl refl & part ! (at 8 5) refl refl refl & part ! (at 8 5) refl refl refl & none)) (init ! (at 8 8) refl (LL.lawful Rg.the-type Rg′.the-laws 𝓤 H A W .typed (registersOf m) _ (regs-is m is-m) .0)) $
         lets ! (of-opd ! (part ! (at 8 5) refl refl refl)) (fills ! Stack (at 8 9) (m .stack) refl (f .stack)) $
         lets ! (of-opd ! (part ! (at 8 5) refl refl refl)) (fills ! Calls (at 8 10) (m .calls) refl (f .calls)) $
         lets ! (of-opd ! (part ! (at 8 5) refl refl refl)) (fills ! Memory (at 8 11) (m .memory) refl (f .memory)) $
@@ -475,7 +476,7 @@ module _ {M : Type 1} (𝓤 : URA M) (H : Heap 𝓤) (A : Atoms 𝓤) (W : Given
         move ! (5 ∷ 4 ∷ []) $ cut From-begin To-begin _ (goes-begin fc fl is-m) $
         -- [what `begin` asks; the instructions; dumps; κ₃; the image; κ₀; the labels; κ₂]
         calls-at ! (fmOf 𝓤 H (W .laws) 𝓣) (Begin 𝓤 H A mem run) (knows .begins) to-begin (local ! (at 8 2) refl & local ! (at 8 4) refl & local ! (at 8 8) refl & part ! (at 8 5) refl refl refl & part ! (at 8 5) refl refl refl & local ! (at 8 6) refl & none) (λ v.
-        replies ! Pg.the-row (LL.vals Pg.the-type Pg′.the-laws) (LL.tells Pg.the-type Pg′.the-laws) v Tokens-begin (lasts begin.ended (κ₁, tt) args-begin) (λ r ws. Begun (ins .now) c (regs m) (m .flags) (m .halted) limit r) (id⊢ 𝓤 _) (λ r _ led isr.
+        replies ! Pg.the-row (LL.vals Pg.the-type Pg′.the-laws) (LL.tells Pg.the-type Pg′.the-laws) v Tokens-begin (lasts begin.ended (κ₁, tt) args-begin) (λ r ws. Begun (ins .now) c (registersOf m) (m .flags) (m .halted) limit r) (id⊢ 𝓤 _) (λ r _ led isr.
         keeps ! (init ! (at 8 14) refl (LL.lawful Pg.the-type Pg′.the-laws 𝓤 H A W .typed r _ isr .0)) $ taken ! $ drop ! $ move ! (2 ∷ 3 ∷ 4 ∷ 5 ∷ 1 ∷ []) $ first ! $
         turns (record { now-at = starts (im .now) (ins .now) ys c limit m d₀ (gg .0) r led; progress = isr; stack = f .stack; calls = f .calls; memory = f .memory; keys = is-keys; targets = is-targets })))
 

@@ -10,11 +10,11 @@ use Rattle.quick.proofs.run_known.Statement.{statement}
 use Rattle.quick.proofs.run_known.Tie as tie
 
 abbrev Inv-loop : tie.InvT-loop
-Inv-loop insts keys targets f stack₀ calls₀ memory₀ steps core₀ flags₀ left₀ stack calls memory regs flags left =
-    Leads insts keys targets (ofParts core₀ f stack₀ calls₀ memory₀ false) steps (record { regs = regs; left = left; flags = flags }) stack calls memory
+Inv-loop insts keys targets f stack₀ calls₀ memory₀ steps regs₀ flags₀ left₀ stack calls memory regs flags left =
+    Leads insts keys targets (ofParts regs₀ f stack₀ calls₀ memory₀ false) steps (record { regs = regs; left = left; flags = flags }) stack calls memory
 
 abbrev μ-loop : tie.MeasureT-loop
-μ-loop insts keys targets f stack₀ calls₀ memory₀ steps core₀ flags₀ left₀ stack calls memory regs flags left = left
+μ-loop insts keys targets f stack₀ calls₀ memory₀ steps regs₀ flags₀ left₀ stack calls memory regs flags left = left
 
 loop-holds : tie.Need-loop-holds Inv-loop μ-loop
 loop-holds c = begun _ _ _ _ _ _ _ _ _ (search needs)

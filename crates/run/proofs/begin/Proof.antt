@@ -5,13 +5,13 @@ use Rattle.run.proofs.begin.Statement.{statement}
 use Rattle.run.proofs.begin.Tie as tie
 
 returns : tie.Need-returns
-returns c image labels b s ca me fits = rw (c .ends .ensures) (begins-halted _ _ _ _ _ _ _ _ _ _ (c .before .if1 .taken))
+returns c image labels b s ca me fits = rw (c .ends .ensures) (begins-halted _ _ _ _ _ (c .before .if1 .taken))
 
 returns-2 : tie.Need-returns-2
-returns-2 c image labels b s ca me fits = rw (c .ends2 .ensures) (begins-spent _ _ _ _ _ _ _ _ _ _ (c .before .before .if1 .left) (c .before .if2 .taken))
+returns-2 c image labels b s ca me fits = rw (c .ends2 .ensures) (begins-spent _ _ _ _ _ (c .before .before .if1 .left) (c .before .if2 .taken))
 
 returns-3 : tie.Need-returns-3
-returns-3 c image labels b s ca me fits = rw (c .ends3 .ensures) (begins-ill _ _ _ _ _ _ _ _ _ _ (c .before .before .before .before .if1 .left) (c .before .before .before .if2 .left) (c .before .before .is-ill .ensures .unwell (c .before .if3 .taken) image labels _ s ca me))
+returns-3 c image labels b s ca me fits = rw (c .ends3 .ensures) (begins-ill _ _ _ _ _ (c .before .before .before .before .if1 .left) (c .before .before .before .if2 .left) (c .before .before .is-ill .ensures .unwell (c .before .if3 .taken) image labels _ s ca me _))
 
 returns-4 : tie.Need-returns-4
 returns-4 c image labels b s ca me fits = rw (c .asks .ensures) (begins-on image _ labels _ b _ _ _ _ s ca me fits (c .before .before .before .before .if1 .left) (c .before .before .is-ill .ensures .well (c .before .if3 .left) .0) (c .before .before .is-ill .ensures .well (c .before .if3 .left) .1))

@@ -4,6 +4,7 @@ use lib.ListN.{length}
 use borrow.Author.Needs.{needs}
 use Rattle.machine.specs.Run.{Course}
 use Rattle.tables.specs.Tables.{labelsOf, instsOf, program}
+use Rattle.step.specs.Steps.{arrays}
 use Rattle.run.specs.Runs.{Stands, weight}
 use Rattle.run.proofs.Edges.{reports, answers}
 use Rattle.run.proofs.Running.{ready}
@@ -13,8 +14,8 @@ use Rattle.run.proofs.execute_parts.Tie as tie
 abbrev Inv-loop : tie.InvT-loop
 Inv-loop image insts labels count flags halted limit stack₀ calls₀ memory₀ dumps₀ keys₀ targets₀ progress₀ stack calls memory dumps keys targets progress =
     (length image < 2 ^ 64)
-    × ((run : Course) → Stands (program image insts labels count) insts dumps₀ limit run progress₀ dumps₀ keys₀ targets₀ stack₀ calls₀ memory₀ →
-    Stands (program image insts labels count) insts dumps₀ limit run progress dumps keys targets stack calls memory)
+    × ((run : Course) → Stands (program image insts labels count) insts dumps₀ limit run progress₀ dumps₀ (arrays keys₀ targets₀ stack₀ calls₀ memory₀) →
+    Stands (program image insts labels count) insts dumps₀ limit run progress dumps (arrays keys targets stack calls memory))
 
 abbrev μ-loop : tie.MeasureT-loop
 μ-loop image insts labels count flags halted limit stack₀ calls₀ memory₀ dumps₀ keys₀ targets₀ progress₀ stack calls memory dumps keys targets progress =

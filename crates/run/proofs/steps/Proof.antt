@@ -2,19 +2,20 @@
 use native.Mathlib.Omega.{arith}
 use mathlib.Core.Path.{_∙_}
 use borrow.Author.Needs.{needs}
+use Rattle.step.specs.Steps.{arrays}
 use Rattle.run.proofs.Loop.{Loops, loop-starts, loop-over, loop-on, loop-stops, go-small, end-long, advances}
 use Rattle.run.proofs.steps.Statement.{statement}
 use Rattle.run.proofs.steps.Tie as tie
 
 abbrev Inv-loop : tie.InvT-loop
-Inv-loop image insts count stack₀ calls₀ memory₀ keys₀ targets₀ dumps₀ forms core₀ flags₀ left₀ n₀ found₀ stack calls memory keys targets dumps regs flags left n found =
-    Loops image insts count core₀ flags₀ left₀ n₀ found₀ dumps₀ keys₀ targets₀ stack₀ calls₀ memory₀ regs flags left n found dumps keys targets stack calls memory
+Inv-loop image insts count stack₀ calls₀ memory₀ keys₀ targets₀ dumps₀ forms regs₀ flags₀ left₀ n₀ found₀ stack calls memory keys targets dumps regs flags left n found =
+    Loops image insts count (record { regs = regs₀; left = left₀; flags = flags₀ }) n₀ found₀ dumps₀ (arrays keys₀ targets₀ stack₀ calls₀ memory₀) (record { regs = regs; left = left; flags = flags }) n found dumps (arrays keys targets stack calls memory)
 
 abbrev μ-loop : tie.MeasureT-loop
-μ-loop image insts count stack₀ calls₀ memory₀ keys₀ targets₀ dumps₀ forms core₀ flags₀ left₀ n₀ found₀ stack calls memory keys targets dumps regs flags left n found = left
+μ-loop image insts count stack₀ calls₀ memory₀ keys₀ targets₀ dumps₀ forms regs₀ flags₀ left₀ n₀ found₀ stack calls memory keys targets dumps regs flags left n found = left
 
 loop-holds : tie.Need-loop-holds Inv-loop μ-loop
-loop-holds c = loop-starts _ _ _ _ _ _ _ _ _ _ _ (c .before .before .before .before .before .pre .small) (c .before .before .before .before .before .pre .filled) (c .before .before .before .before .before .pre .sized) (c .before .before .before .before .before .pre .listed)
+loop-holds c = loop-starts _ _ _ _ _ (c .before .before .before .before .before .pre .small) (c .before .before .before .before .before .pre .filled) (c .before .before .before .before .before .pre .sized) (c .before .before .before .before .before .pre .listed)
 
 step-requires : tie.Need-step-requires Inv-loop μ-loop
 step-requires c κs = (c .before .before .before .before .before .before .before .before .before .form-table .ensures, (c .before .before .before .before .before .before .before .loop .inv .small, c .before .before .before .before .before .before .before .before .before .before .before .before .before .pre .inside, c .before .before .before .before .before .before .before .loop .inv .sized, c .before .before .before .before .before .before .before .loop .inv .listed))
