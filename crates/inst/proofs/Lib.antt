@@ -2,3 +2,4 @@ mod Table
 pub mod Laws
 pub mod Facts
 mod Names
+pub mod Parts

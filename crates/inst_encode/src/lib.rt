@@ -8,6 +8,7 @@ ghost use lib.Seq.{sets};
 ghost use Rattle.inst.specs.Forms.{formTable};
 ghost use Rattle.inst.specs.Records.{part, wellFormed};
 ghost use Rattle.inst_encode.specs.Encode.{bytesOf, asBytes};
+use bytes::copy;
 use inst::EIGHT;
 use inst::Inst;
 use inst::NAME;
@@ -31,18 +32,6 @@ fn put_number(out: &mut [u8], at: usize, size: usize, number: u64)
     }
 }
 
-// The bytes of a name from `at` on.
-fn put_name(out: &mut [u8], at: usize, name: &[u8])
-    requires { ⌜ at + length (now name) ≤ length (now out) ⌝ }
-    ensures { λ r. ⌜ now (out .exit) ≡ sets (now (out .entry)) at (now (name .entry)) ⌝ }
-{
-    let mut i = 0;
-    while i < name.len() {
-        out[at + i] = name[i];
-        i += 1;
-    }
-}
-
 // A name's length field and its bytes.
 fn put_named(out: &mut [u8], at: usize, image: &[u8], start: u64, len: u64)
     requires { ⌜ start + len ≤ length (now image) ⌝ }
@@ -52,7 +41,7 @@ fn put_named(out: &mut [u8], at: usize, image: &[u8], start: u64, len: u64)
     put_number(out, at, 8, len);
     let from = start as usize;
     let to = from + len as usize;
-    put_name(out, at + 8, &image[from..to]);
+    copy(&image[from..to], &mut out[at + 8..]);
 }
 
 // How many bytes a record is written in; 0 for one that number 34 calls ill. One search for the form serves both. Only the encoder calls it, and lends it the table of forms.

@@ -11,7 +11,7 @@ use Rattle.inst.proofs.Laws.{sets-more}
 use Rattle.machine.specs.Limits.{stackLimit, callLimit, memorySize}
 use Rattle.tables.specs.Tables.{bytesOf}
 use Rattle.tables.proofs.Bytes.{length-bytes, stored-more}
-use Rattle.tables.proofs.Parts.{lent-whole, sets-whole}
+use Rattle.inst.proofs.Parts.{lent-whole, sets-whole}
 use Rattle.step_core.specs.declared.Registers.{Registers}
 use Rattle.step_core.specs.Parts.{callHeight, ofParts}
 use Rattle.machine_bytes.specs.Layout.{callsAt, memoryAt, heightAt, callHeightAt, ipAt, flagsAt, haltedAt, machineSize, machineBytes}

@@ -10,7 +10,7 @@ use lib.Seq.{sets}
 use Rattle.word.specs.Words.{eightOf}
 use Rattle.tables.specs.Tables.{numbersIn}
 use Rattle.tables.proofs.Bytes.{eight-long}
-use Rattle.tables.proofs.Parts.{lent-part}
+use Rattle.inst.proofs.Parts.{lent-part}
 use borrow.Author.Tests.{eq-eqb, ne-eqb}
 use Rattle.machine.specs.declared.Machine.{Machine}
 use Rattle.machine.specs.declared.Ending.the-variants.{Halted, Number}
