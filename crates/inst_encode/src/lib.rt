@@ -44,7 +44,8 @@ fn put_named(out: &mut [u8], at: usize, image: &[u8], start: u64, len: u64)
     copy(&image[from..to], &mut out[at + 8..]);
 }
 
-// How many bytes a record is written in; 0 for one that number 34 calls ill. One search for the form serves both. Only the encoder calls it, and lends it the table of forms.
+// How many bytes a record is written in; 0 for one that number 34 calls ill. One search for the form serves both. Only the
+// encoder calls it, and lends it the table of forms.
 pub fn checked_len(forms: &[u8; TABLE_SIZE], image: &[u8], inst: Inst) -> usize
     requires { ⌜ now forms ≡ formTable ⌝ }
     ensures { λ r. ⌜ r ≡ cond (wellFormed (now (image .entry)) inst) (length (asBytes (now (image .entry)) inst)) 0 ⌝ }

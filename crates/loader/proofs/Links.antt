@@ -6,7 +6,7 @@ use mathlib.Core.List.{List, [], _∷_, _++_}
 use native.Mathlib.Nat.{add-zero, zero-add}
 use native.Mathlib.Omega.{arith}
 use lib.Dec.{ltb}
-use lib.ListN.{length, length-append}
+use lib.ListN.{length}
 use Rattle.inst.specs.declared.Inst.{Inst}
 use Rattle.inst.proofs.Laws.{by-test}
 use Rattle.inst_decode.specs.Decode.{fromBytes}
@@ -14,7 +14,7 @@ use Rattle.machine.specs.Limits.{labelRecords}
 use Rattle.machine.specs.declared.Label.{Label}
 use Rattle.machine.specs.Load.{isLabel, halt, head, linked, Scan, Scanned, stops, goes, begin, scanOne, andThen, scan, lastIsHalt, closed, Loaded, accepts, finished, loads}
 use Rattle.loader.proofs.Scans.{lastInst}
-use Rattle.loader.proofs.Rests.{grown}
+use Rattle.loader.proofs.Rests.{linked-long, grown}
 use Rattle.loader.proofs.Loads.{never-both, is-closed, not-finished, accepted-rest}
 
 -- the label table behind instructions, the first of which is instruction n
@@ -40,9 +40,8 @@ links-closed is ls = by-halt (lastIsHalt is)
 
 -- a label table only grows
 linked-grows : (b : Bool) (i : Inst) (n : ℕ) (ls : List Label) → length ls ≤ length (cond b (linked i n ls) ls)
-unfolding linked
 linked-grows true i n [] = omega arith
-linked-grows true i n (h ∷ ls) = let e = length-append ls (record { start = i .start; len = i .len; target = n; next = h .next } ∷ []) in omega (arith, e)
+linked-grows true i n (h ∷ ls) = let e = linked-long i n (h ∷ ls) .1 (omega arith) in omega (arith, e)
 linked-grows false i n ls = omega arith
 
 pub links-grow : (is : List Inst) (n : ℕ) (ls : List Label) → length ls ≤ length (links n is ls)

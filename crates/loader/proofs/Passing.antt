@@ -4,7 +4,7 @@ use mathlib.Core.Path.{_≡_, refl, ap, sym, _∙_, subst}
 use mathlib.Core.Bool.{Bool, true, false, cond}
 use mathlib.Core.List.{List, [], _∷_}
 use native.Mathlib.Omega.{arith}
-use lib.ListN.{length, take, drop, length-append, length-take, length-drop}
+use lib.ListN.{length, take, drop, length-take, length-drop}
 use lib.Seq.{sets, length-sets, sets-eq, take-at, drop-drop}
 use Rattle.inst.specs.declared.Inst.{Inst}
 use Rattle.inst.specs.Records.{named}
@@ -17,6 +17,7 @@ use Rattle.loader.specs.declared.Linking.{Linking}
 use Rattle.loader.specs.declared.Checked.{Checked}
 use Rattle.loader.specs.Loading.{checkedOf, instsLeft}
 use Rattle.loader.specs.Linking.{noLink, headBy, headLink, labelLink, nextLink, Covers}
+use Rattle.loader.proofs.Rests.{linked-long}
 use Rattle.loader.proofs.Loads.{AcceptedLoad, load-accepts}
 use Rattle.loader.proofs.Links.{links, links-grow, accepted-linked}
 
@@ -26,9 +27,9 @@ linkedOn p [] = head 0 ∷ []
 linkedOn p (h ∷ ls) = linked (named 21 (p .start) (p .len)) (p .target) (h ∷ ls)
 
 linked-on-long : (p : Linking) (ls : List Label) → length (linkedOn p ls) ≡ length ls + 1
-unfolding linkedOn linked
+unfolding linkedOn
 linked-on-long p [] = refl
-linked-on-long p (h ∷ ls) = let e = length-append ls (record { start = p .start; len = p .len; target = p .target; next = h .next } ∷ []) in omega (arith, e)
+linked-on-long p (h ∷ ls) = linked-long (named 21 (p .start) (p .len)) (p .target) (h ∷ ls) .1 (omega arith)
 
 label-on : (p : Linking) (i : Inst) (n : ℕ) (ls : List Label) → 0 < length ls → linkedOn (labelLink p n i) ls ≡ linked i n ls
 unfolding linkedOn linked
@@ -76,17 +77,12 @@ left-falls p q is o e =
     omega (arith, a, b, c, d, k)))
 
 -- no label is left where none comes to the table
-linked-more : (i : Inst) (n : ℕ) (ls : List Label) → 0 < length ls → length ls < length (linked i n ls)
-unfolding linked
-linked-more i n [] z = z
-linked-more i n (h ∷ ls) z = let e = length-append ls (record { start = i .start; len = i .len; target = n; next = h .next } ∷ []) in omega (arith, e)
-
 none-left : (is : List Inst) (n : ℕ) (ls : List Label) (p : Linking) → 0 < length ls → length (links n is ls) ≤ length ls → nextLink p n is ≡ noLink
 unfolding links nextLink
 none-left [] n ls p z h = refl
 none-left (i ∷ is) n ls p z h =
     by-test (λ q. q ≡ noLink) (isLabel i) _ _
-    (λ e. absurd (let a = linked-more i n ls z in let b = links-grow is (n + 1) (linked i n ls) in omega (arith, a, b, rw e at h)))
+    (λ e. absurd (let a = linked-long i n ls .1 z in let b = links-grow is (n + 1) (linked i n ls) in omega (arith, a, b, rw e at h)))
     (λ e. none-left is (n + 1) ls p z (rw e at h))
 
 -- the lent tables; the label table as the definition of a load has it, as it is lent, and the slots that labels take in it

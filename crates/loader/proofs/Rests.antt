@@ -38,10 +38,11 @@ goes-where s to i size ls e f q =
     let z : record { at = s .at + size; insts = s .insts ++ (i ∷ []); labels = ls } ≡ to = cc in
     subst (λ (x : Scan). Grown s x (lastInst (x .insts))) z (rw snoc-last (record { insts-are = refl; labels-are = e; labels-fit = f }))
 
-linked-long : (i : Inst) (n : ℕ) (ls : List Label) → length (linked i n ls) ≤ length ls + 1
+-- at most one label record more, and just one where the table has its head
+pub linked-long : (i : Inst) (n : ℕ) (ls : List Label) → (length (linked i n ls) ≤ length ls + 1) × (0 < length ls → length (linked i n ls) ≡ length ls + 1)
 unfolding linked
-linked-long i n [] = omega arith
-linked-long i n (h ∷ ls) = let e = length-append ls (record { start = i .start; len = i .len; target = n; next = h .next } ∷ []) in omega (arith, e)
+linked-long i n [] = (omega arith, λ z. absurd (omega arith))
+linked-long i n (h ∷ ls) = let e = length-append ls (record { start = i .start; len = i .len; target = n; next = h .next } ∷ []) in (omega (arith, e), λ z. omega (arith, e))
 
 pub grown : (s to : Scan) (a : Answer) → scanOne s a ≡ goes to → Grown s to (lastInst (to .insts))
 unfolding scanOne
@@ -52,7 +53,7 @@ grown s to (reads i size) q =
     (λ _. by-test (λ x. x ≡ goes to → Grown s to (lastInst (to .insts))) (isLabel i) _ _
     (λ e. by-test (λ x. x ≡ goes to → Grown s to (lastInst (to .insts))) (leb labelRecords (length (s .labels))) _ _
     (λ _ r. absurd (let z : _≡_ {A = ℕ} 0 1 = cc in omega arith))
-    (λ k. goes-where s to i size _ (rw e) (λ _. let n = linked-long i (length (s .insts)) (s .labels) in let m = leb-false labelRecords (length (s .labels)) k in omega (arith, n, m))))
+    (λ k. goes-where s to i size _ (rw e) (λ _. let n = linked-long i (length (s .insts)) (s .labels) .0 in let m = leb-false labelRecords (length (s .labels)) k in omega (arith, n, m))))
     (λ e. goes-where s to i size _ (rw e) (λ f. f)))
     q
 

@@ -15,6 +15,7 @@ use tables::number_at;
 use tables::put;
 
 // A label record, linked first: it leads to what the head led to, and the head to it. Index 0 makes the head itself, zero.
+// Only from_binary calls it.
 pub fn link(labels: &mut [u8], l: Linking)
     requires { ⌜ l .index * 32 + 32 ≤ length (now labels) ⌝ }
     ensures { λ _. ⌜ now (labels .exit) ≡ linkedAt (now (labels .entry)) l ⌝ }

@@ -81,7 +81,8 @@ fn in_program(count: usize, t: u64) -> LookedUp
     }
 }
 
-// The walk w with the record l, which it is at. `lookup` calls it for a name that lies in the image.
+// The walk w with the record l, which it is at. Only the lookups, here and over label records, call it, for a name that lies in
+// the image.
 pub fn judge(image: &[u8], count: usize, w: Walk, l: Label, start: u64, len: u64) -> Walk
     requires { ⌜ start + len ≤ length (now image) ⌝ }
     ensures { λ r. ⌜ Judges (now (image .entry)) count start len l w r ⌝ }
