@@ -58,7 +58,7 @@ mm:
 	else echo "mm: no mm.rs in MM_SOURCE=$(MM_SOURCE), so nothing was compared with the Rust; crate replay stands in"; fi
 
 SEED ?= 1
-IMAGES ?= 121000
+IMAGES ?= 138000
 
 .PHONY: compared
 compared: $(ARCHIVES) target/original/libmm.rlib

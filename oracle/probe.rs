@@ -1,8 +1,13 @@
 
-// What the comparison reads of the original's private state. The Makefile puts it behind the original's root file, which itself stays as it is.
+// What the comparison reads of the original's private state, its step, and its pointer moved on. The Makefile puts it behind the original's
+// root file, which itself stays as it is.
 impl<'a> Mm<'a> {
     pub fn probe_ip(&self) -> usize {
         self.ip
+    }
+
+    pub fn probe_onward(&mut self) {
+        self.ip += 1;
     }
 
     pub fn probe_flags(&self) -> u8 {

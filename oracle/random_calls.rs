@@ -22,7 +22,7 @@ pub struct Calls {
 
 // A cell: mostly a small number of some type, of either sign.
 fn cell(random: &mut Random) -> u64 {
-    let top = random.pick(&[0x7FF2, 0x7FF2, 0x7FF2, 0xFFF2, 0x7FF3, 0x7FF3, 0xFFF3, 0x7FF4, 0x7FF8, 0x3FF0, 0xC059, 0]);
+    let top = random.pick(&[0x7FF2, 0x7FF2, 0x7FF2, 0xFFF2, 0x7FF3, 0x7FF3, 0xFFF3, 0x7FF4, 0x7FF5, 0x7FF8, 0xFFF8, 0x3FF0, 0xC059, 0]);
     match random.below(6) {
         0 => random.next(),
         1 => top << 48 | random.next() >> 16,

@@ -41,7 +41,7 @@ fn each_trap_of_a_run() {
         (vec![push(int(1)), vec![31]], Trap::WrongType, 2),
         (vec![push(int(1) | 1 << 63), vec![34]], Trap::NegativeConversion, 2),
         (vec![push(int(1)), push(1.0f64.to_bits()), vec![5]], Trap::NotBothI64, 3),
-        (vec![push(0x7FF8_0000_0000_0000), vec![31]], Trap::UnknownType, 2),
+        (vec![push(0x7FF5_0000_0000_0000), vec![31]], Trap::UnknownType, 2),
         (vec![push(int(1)), vec![46, 3]], Trap::NoSuchStream, 2),
     ];
     assert_eq!(trapped.len(), Trap::ALL.len());
@@ -50,6 +50,17 @@ fn each_trap_of_a_run() {
         let mut machine = program.machine();
         let ending = machine.run(&program, 10_000, &mut [0; 4]).ending;
         assert_eq!((ending, machine.pointer(), machine.halted()), (Ending::Trap(trap), at, false));
+    }
+}
+
+#[test]
+fn zero_by_zero_converts_to_zero() {
+    let zero = push(0f64.to_bits());
+    for (conversion, cell) in [(31, int(0)), (32, 0x7FF3_0000_0000_0000)] {
+        let program = load(image(&[zero.clone(), zero.clone(), vec![26, conversion, 46, 1]]));
+        let mut dumps = [1, 2];
+        let ran = program.machine().run(&program, 100, &mut dumps);
+        assert_eq!((ran.ending, ran.steps, ran.dumped), (Ending::Halted, 7, [cell].as_slice()));
     }
 }
 

@@ -1,5 +1,5 @@
 // One image in both machines: after the load the program, its re-encoding, that loaded again, and the pointer; after every step the whole
-// state. Where document 01's domain ends, ours is held to what document 01 says there.
+// state. Where document 01's domain ends, ours is held to what the documents say there.
 use crate::edge::Edge;
 use crate::images::{self, Random};
 use crate::lent::layout::{FLAGS_AT, IMAGE_MAX, NUMBER_SIZE, POINTER_AT, RECORD_SIZE};
@@ -7,7 +7,7 @@ use crate::lent::sys::Ran;
 use crate::lent::{number_at, Machine, Program};
 use crate::report::Report;
 use crate::trap::number;
-use mm::{Mm, Natives};
+use mm::{Mm, NaNBox, Natives};
 use std::fmt;
 use std::panic::{catch_unwind, AssertUnwindSafe};
 
@@ -42,6 +42,11 @@ const CONVERSIONS: std::ops::RangeInclusive<u64> = 31..=36;
 // Document 01's one NaN.
 const NAN: u64 = 0x7FF8_0000_0000_0000;
 
+// Bits 48 to 51 of a plain NaN, which the Rust knows no type for: request a of document 02.
+const PLAIN: u64 = 8;
+const TO_SIGNED: u64 = 31;
+const TO_UNSIGNED: u64 = 32;
+
 fn first_difference(rust: &Mm, ours: &Machine) -> Option<String> {
     let cells = rust.stack().iter().map(|c| c.0.to_bits());
     let calls = rust.probe_calls().iter().map(|a| *a as u64);
@@ -67,6 +72,21 @@ fn first_difference(rust: &Mm, ours: &Machine) -> Option<String> {
 fn replaced_nan(rust: &mut Mm) -> bool {
     let nan = rust.stack_mut().back_mut().filter(|c| c.0.is_nan());
     nan.map(|c| c.0 = f64::from_bits(NAN)).is_some()
+}
+
+// What request a of document 02 has for a step that takes a plain NaN by its type, and no operand of unknown type.
+fn plain_nan_at(op: u64) -> Edge {
+    match op {
+        TO_SIGNED | TO_UNSIGNED => Edge::PlainNaNToZero,
+        _ if CONVERSIONS.contains(&op) => Edge::PlainNaNWrongType,
+        _ => Edge::PlainNaNNotI64,
+    }
+}
+
+// The Rust, which popped the NaN and panicked, goes on as if it had converted it to 0.
+fn put_zero(rust: &mut Mm, op: u64) {
+    rust.stack_mut().push_back(if op == TO_SIGNED { NaNBox::from_i64(0) } else { NaNBox::from_u64(0) });
+    rust.probe_onward();
 }
 
 struct Both<'a> {
@@ -104,7 +124,7 @@ impl Taken {
     // Where a run of limit 1 with room for one cell says otherwise.
     fn difference(&self, ran: &Ran, cell: u64) -> Option<String> {
         let (op, ending, dumped) = (self.op, self.ending(), u64::from(self.dumped.is_some()));
-        let whose = if self.edge.is_some() { "document 01" } else { "Rust" };
+        let whose = if self.edge.is_some() { "the documents" } else { "the Rust" };
         if ran.ending != ending || ran.steps != 1 || ran.dumped != dumped {
             Some(format!("first byte {op}: {whose} {ending} and {dumped} cells, ours {ran:?}"))
         } else if self.dumped.is_some_and(|top| top != cell) {
@@ -133,12 +153,13 @@ fn operands(op: u64) -> usize {
 }
 
 impl<'a> Both<'a> {
-    // What the Rust may panic at in this step, by document 01.
+    // What the Rust may panic at in this step, by the documents. Where it has no type for a cell, it gives bits 48 to 51.
     fn panic_at(&self, rust: &Mm<'a>, op: u64) -> Option<Edge> {
-        let unknown = rust.stack().iter().rev().take(operands(op)).any(|c| c.get_type().is_err());
+        let untyped: Vec<u64> = rust.stack().iter().rev().take(operands(op)).filter_map(|c| c.get_type().err()).collect();
         let stream = (op == 46).then(|| self.rust[rust.probe_ip()].1.as_bytes()[1]);
         match stream {
-            _ if unknown => Some(Edge::UnknownType),
+            _ if untyped.iter().any(|bits| *bits != PLAIN) => Some(Edge::UnknownType),
+            _ if !untyped.is_empty() => Some(plain_nan_at(op)),
             Some(stream) if stream != 1 && stream != 2 => Some(Edge::Stream),
             _ => None,
         }
@@ -152,8 +173,11 @@ impl<'a> Both<'a> {
         let panic_at = self.panic_at(rust, op);
         let Ok(went) = catch_unwind(AssertUnwindSafe(|| rust.probe_step(self.rust))) else {
             let Some(edge) = panic_at else {
-                return Err(Verdict::Differs(format!("first byte {op}: the Rust panics, and document 01 has neither 31 nor 32 there")));
+                return Err(Verdict::Differs(format!("first byte {op}: the Rust panics, and neither an operand's type nor a stream is why")));
             };
+            if matches!(edge, Edge::PlainNaNToZero) {
+                put_zero(rust, op);
+            }
             return Ok(Taken { op, trap: None, dumped: None, edge: Some(edge) });
         };
         let trap = went.err().map(|t| number(&t)).transpose().map_err(Verdict::Differs)?;

@@ -1,4 +1,5 @@
-// The images of the comparison: random ones that live long, damaged copies, and those at document 01's limits. All from a seed.
+// The images of the comparison: random ones that live long, damaged copies, cells of each type at each instruction that looks at it, and
+// those at document 01's limits. All from a seed.
 
 pub struct Random(pub u64);
 
@@ -349,6 +350,32 @@ pub fn short(k: u64) -> Vec<u8> {
         image.extend_from_slice(&((k - 257) as u16).to_le_bytes());
     } else if k > 0 {
         image.push((k - 1) as u8);
+    }
+    image
+}
+
+// The k-th of the cells with an exponent of ones: either sign, 0 to 15 in bits 48 to 51, 0 or 5 below. With nothing but 0 there it is an infinity.
+const TAGGED: u64 = 2 * 16 * 2;
+
+fn tagged(k: u64) -> u64 {
+    let (sign, tag, below) = (k % 2, k / 2 % 16, k / 32 % 2 * 5);
+    sign << 63 | 0x7FF0 << 48 | tag << 48 | below
+}
+
+// The k-th of the images that convert one such cell, or take two of them for an integer operation.
+const CONVERTED: u64 = 6 * TAGGED;
+pub const TYPED: u64 = CONVERTED + 4 * TAGGED * TAGGED;
+
+pub fn typed(k: u64) -> Vec<u8> {
+    let mut image = started();
+    if k < CONVERTED {
+        wide(1, tagged(k % TAGGED), &mut image);
+        image.push(31 + (k / TAGGED) as u8);
+    } else {
+        let pair = (k - CONVERTED) % (TAGGED * TAGGED);
+        wide(1, tagged(pair % TAGGED), &mut image);
+        wide(1, tagged(pair / TAGGED), &mut image);
+        image.push(5 + ((k - CONVERTED) / (TAGGED * TAGGED)) as u8);
     }
     image
 }

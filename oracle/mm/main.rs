@@ -21,7 +21,7 @@ fn hex(bytes: &[u8]) -> String {
 
 fn main() {
     let number = |i: usize, default: u64| std::env::args().nth(i).map_or(default, |a| a.parse().expect("a number"));
-    let (seed, wanted) = (number(1, 1), number(2, 120_000));
+    let (seed, wanted) = (number(1, 1), number(2, 138_000));
     let mut out = output::third();
     std::panic::set_hook(Box::new(|_| {}));
     let mut random = Random(seed);
@@ -32,6 +32,7 @@ fn main() {
         let image = match at.checked_sub(boundary.len() as u64) {
             None => boundary[at as usize].clone(),
             Some(k) if k < images::SHORT => images::short(k),
+            Some(k) if k < images::SHORT + images::TYPED => images::typed(k - images::SHORT),
             Some(_) if random.one_in(4) => images::damaged(&mut random),
             Some(_) => images::lively(&mut random),
         };

@@ -10,7 +10,7 @@ use lib.Pow.{pow-pos}
 use Rattle.binary64.proofs.Bounded.{round-nearest}
 use Rattle.binary64.proofs.Unique.{unique, over, reaches}
 use Rattle.binary64.proofs.Exact.{exact-nearest, signed-value, Encoded, encoded, value-encoded, Pattern, pattern, pattern-of, below-infinity}
-use Rattle.binary64.proofs.Special.{special}
+use Rattle.binary64.proofs.Special.{special, nan-result}
 use Rattle.binary64.specs.Rounding.{count, units, NearestEven, roundPattern}
 use Rattle.binary64.specs.Binary64.{infinity, finite, value, withSign, Exact, exactly, exactSum, exactProduct, exactQuotient, rounded, sum, opposite, product, quotient, sumBits, differenceBits, productBits, quotientBits, ofWhole}
 use Rattle.binary64.specs.Theorems.{Theorems, IsRounded, RoundsToNearestEven, OnlyOneIsNearestEven, OverflowsFrom, ExactResultIsGiven, SumIsRounded, ZeroSumIsSigned, DifferenceIsRounded, ZeroDifferenceIsSigned, ProductIsRounded, QuotientIsRounded, WholeIsRounded, WholeIsExact}
@@ -139,6 +139,7 @@ theorems = record {
   product = product-rounded;
   quotient = quotient-rounded;
   special = special;
+  nan-result = nan-result;
   whole = whole-rounded;
   whole-exact = whole-exact;
 }

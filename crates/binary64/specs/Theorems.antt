@@ -1,10 +1,10 @@
 -- What the operations of Binary64 are, as statements. Definitions only: `rounding_theorems` in src/lib.rt states that they hold.
 use Prim.Native.Nat.{ℕ, _*_, _-_, _^_, _≤_, _<_}
 use mathlib.Core.Path.{_≡_}
-use mathlib.Core.Bool.{Bool, false, not, _&&_}
+use mathlib.Core.Bool.{Bool, true, false, not, _&&_}
 use Rattle.binary64.specs.Rounding.{NearestEven, roundPattern}
-use Rattle.binary64.specs.Binary64.{infinity, Value, finite, value, withSign, Exact, exactly, exactSum, exactDifference, exactProduct, exactQuotient, sumBits, differenceBits, productBits, quotientBits, ofWhole}
-use Rattle.binary64.specs.SpecialCases.{SpecialCases}
+use Rattle.binary64.specs.Binary64.{infinity, quiet, isNaN, Value, finite, value, withSign, Exact, exactly, exactSum, exactDifference, exactProduct, exactQuotient, sumBits, differenceBits, productBits, quotientBits, ofWhole}
+use Rattle.binary64.specs.SpecialCases.{EachOperation, SpecialCases}
 
 -- a fraction of units is rounded to a nearest pattern, and at a tie to an even one
 abbrev pub RoundsToNearestEven : Type 0
@@ -61,6 +61,10 @@ QuotientIsRounded = OfFinite (λ a b s u t v. 0 < v → IsRounded (exactQuotient
 abbrev pub SpecialCasesHold : Type 0
 SpecialCasesHold = (s t : Bool) (u v : ℕ) (x y : Value) → SpecialCases s t u v x y
 
+-- where the result of any operands is a NaN, it is that one pattern, `quiet`
+abbrev pub NaNResultIsQuiet : Type 0
+NaNResultIsQuiet = EachOperation (λ op. (a b : ℕ) → isNaN (op a b) ≡ true → op a b ≡ quiet)
+
 -- a whole number converts to the nearest double, and up to 2 ^ 53 to itself
 abbrev pub WholeIsRounded : Type 0
 WholeIsRounded = (n : ℕ) → IsRounded (exactly false (n * 2 ^ 1074) 1) (ofWhole n)
@@ -80,5 +84,6 @@ pub record Theorems : Type 0 where
   pub product : ProductIsRounded
   pub quotient : QuotientIsRounded
   pub special : SpecialCasesHold
+  pub nan-result : NaNResultIsQuiet
   pub whole : WholeIsRounded
   pub whole-exact : WholeIsExact

@@ -2,5 +2,6 @@ mod Runs
 mod Nops
 mod Labels
 mod Ill
+mod PlainNaN
 mod Encode
 mod Sample

@@ -4,17 +4,19 @@ use Prim.Native.Nat.{ℕ, _+_, _-_, _*_, _/_, _^_, _≤_, _<_, min}
 use native.Mathlib.Nat.{le-refl, one-mul, zero-mul, le-div-iff-mul-le, mul-one}
 use native.Mathlib.Omega.{arith}
 use mathlib.Core.Bool.{Bool, true, false, _||_}
-use borrow.Author.Tests.{ltb-true, ltb-false, le-ltb}
+use borrow.Author.Tests.{ltb-false, le-ltb}
 use lib.IntN.{ℤ, pos, negℤ}
 use lib.Dec.{T, ltb}
 use lib.Pow.{pow-pos}
-use lib.Ieee.{Float, nan, inf, fin, binary64, up, down, lt, le, ofInt, ofBits, toBits, toUnsigned, toSigned}
+use lib.Ieee.{Float, nan, inf, fin, isNan, binary64, up, down, lt, le, ofInt, ofBits, toBits, toUnsigned, toSigned}
 use lib.Ieee.Fits.{down-pos}
 use lib.Ieee.Nearest.{div-same}
+use lib.Ieee.Bits.{nanBits-is, nanBits-above}
+use Rattle.binary64.proofs.Special.{nan-is}
 use Rattle.float64.proofs.Decode.{Means, not-number, endless, number, read}
 use Rattle.float64.proofs.Encode.{round-bits}
 use Rattle.float64.proofs.Operations.{ltb-same}
-use Rattle.binary64.specs.Binary64.{Value, finite, signedWhole, unsignedWhole, negative, toI64, toU64, belowZero, ofWhole}
+use Rattle.binary64.specs.Binary64.{isNaN, Value, finite, signedWhole, unsignedWhole, negative, toI64, toU64, belowZero, ofWhole}
 
 no : {X : Type 0} → false ≡ true → X
 no e = absurd (subst T (sym e) tt)
@@ -50,23 +52,15 @@ high (inf false) p q = refl
 high (fin true m e) p q = absurd (omega (arith, ltb-false 0 (m * up e * 1 + 1 * 2 ^ 63 * down e) q, down-pos e))
 high (fin false m e) p q = ap pos (omega (arith, at-least (2 ^ 63) (m * up e) (down e) (down-pos e) q))
 
-pub low : (x : Float) → le low-end x ≡ false → lt x origin ≡ true → negℤ (pos (2 ^ 63)) ≡ toSigned 63 x
-unfolding le lt toSigned
-low nan p q = no q
-low (inf true) p q = refl
-low (inf false) p q = on p
-low (fin false m e) p q = absurd (omega (arith, ltb-true (m * up e * 1) (0 * 1 * down e) q))
-low (fin true m e) p q =
+pub low : (x : Float) → isNan x ≡ false → le low-end x ≡ false → negℤ (pos (2 ^ 63)) ≡ toSigned 63 x
+unfolding isNan le toSigned
+low nan n p = on n
+low (inf true) n p = refl
+low (inf false) n p = on p
+low (fin false m e) n p = absurd (omega (arith, ltb-false 0 (1 * 2 ^ 63 * down e + m * up e * 1) (or-false _ _ p), down-pos e))
+low (fin true m e) n p =
     let h : 2 ^ 63 ≤ m * up e / down e = at-least (2 ^ 63) (m * up e) (down e) (down-pos e) (or-false _ _ p) in
     ap (λ (z : ℕ). negℤ (pos z)) (cap-low (m * up e / down e) h)
-
-pub other : (x : Float) → le low-end x ≡ false → lt x origin ≡ false → pos 0 ≡ toSigned 63 x
-unfolding le lt toSigned
-other nan p q = refl
-other (inf true) p q = on q
-other (inf false) p q = on p
-other (fin false m e) p q = absurd (omega (arith, ltb-false 0 (1 * 2 ^ 63 * down e + m * up e * 1) (or-false _ _ p), down-pos e))
-other (fin true m e) p q = absurd (omega (arith, ltb-false (m * up e * 1) (1 * 2 ^ 63 * down e) (or-false _ _ p), ltb-false 0 (m * up e * 1 + 0 * 1 * down e) q, down-pos e))
 
 pub high-unsigned : (x : Float) → lt (fin true 1 (pos 0)) x ≡ true → lt x (fin false 1 (pos 64)) ≡ false → 2 ^ 64 - 1 ≡ toUnsigned 64 x
 unfolding lt toUnsigned
@@ -126,7 +120,14 @@ below-means not-number = refl
 below-means (endless s) = refl
 below-means (number s u m e a) = below-part m u e a s
 
+pub nan-whole : (a : ℕ) → isNaN a ≡ true → pos 0 ≡ toI64 a
+unfolding toI64 signedWhole
+nan-whole a n = rw (nan-is a n)
+
 module _ (a : ℕ) {x : Float} (p : x ≡ ofBits binary64 a) where
+  pub nan-of : isNan x ≡ isNaN a
+  nan-of = ap isNan p ∙ sym (nanBits-is binary64 a) ∙ nanBits-above binary64 a
+
   pub signed-of : toSigned 63 x ≡ toI64 a
   unfolding toI64
   signed-of = signed-means (read a p)

@@ -1,4 +1,4 @@
-mod Table
+pub mod Table
 pub mod Laws
 pub mod Facts
 mod Names

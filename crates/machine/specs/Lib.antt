@@ -11,4 +11,5 @@ pub mod Encode
 pub mod Steps
 pub mod Statements
 pub mod Marks
+pub mod PlainNaN
 pub mod Theorems

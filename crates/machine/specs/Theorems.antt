@@ -4,6 +4,7 @@ use mathlib.Core.Bool.{true}
 use Rattle.machine.specs.Steps.{TrapsLeave, StepsTouch}
 use Rattle.machine.specs.Statements.{RunsAreHistories, OnlyOneResult, RunsAreOneHistory, NamesLeadToLast, ReadsToEnd, WalksToEnd}
 use Rattle.machine.specs.Marks.{marks, allHold}
+use Rattle.machine.specs.PlainNaN.{PlainNaNs, NaNResultConverts, ZeroByZeroConverts}
 
 pub record Theorems : Type 0 where
   pub one-history : RunsAreOneHistory
@@ -15,3 +16,6 @@ pub record Theorems : Type 0 where
   pub reads-to-end : ReadsToEnd
   pub walks-to-end : WalksToEnd
   pub marks-hold : allHold marks ≡ true
+  pub plain-nans : PlainNaNs
+  pub nan-result-converts : NaNResultConverts
+  pub zero-by-zero-converts : ZeroByZeroConverts

@@ -1,4 +1,4 @@
--- Cells (NaNBox), as document 01 has them: type, value, as_u64, from_i64, from_u64.
+-- Cells (NaNBox), as document 01 and request a of document 02 have them: type, value, as_u64, from_i64, from_u64.
 -- A cell is a number below 2 ^ 64. Signed whole numbers are the library's ℤ.
 use Prim.Native.Nat.{ℕ, suc, _+_, _-_, _*_, _/_, _%_, _^_}
 use mathlib.Core.Bool.{Bool, cond}
@@ -12,9 +12,9 @@ use Rattle.nan.specs.declared.CellType.the-variants.{F64, I64, U64, Ptr,
 abbrev pub negative : ℕ → Bool
 negative c = leb (2 ^ 63) c
 
--- bits 48 to 51: 1 F64, 2 I64, 3 U64, 4 Ptr, others unknown
+-- bits 48 to 51: 1 F64, 2 I64, 3 U64, 4 Ptr, 8 F64 (document 02, request a), others unknown
 unfoldable pub tagged : ℕ → CellType
-tagged t = cond (eqb t 1) F64 (cond (eqb t 2) I64 (cond (eqb t 3) U64 (cond (eqb t 4) Ptr Unknown)))
+tagged t = cond (eqb t 1) F64 (cond (eqb t 2) I64 (cond (eqb t 3) U64 (cond (eqb t 4) Ptr (cond (eqb t 8) F64 Unknown))))
 
 -- type: F64 if not a NaN; otherwise by bits 48 to 51
 unfoldable pub typeOf : ℕ → CellType

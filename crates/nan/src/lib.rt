@@ -18,6 +18,7 @@ pub enum CellType {
     Unknown,
 }
 
+// mm has no type for 8, which the usual quiet NaN has: request a of document 02.
 pub fn get_type(cell: u64) -> CellType
     ensures { λ r. ⌜ r ≡ cells.typeOf cell ⌝ }
 {
@@ -27,6 +28,7 @@ pub fn get_type(cell: u64) -> CellType
             2 => CellType::I64,
             3 => CellType::U64,
             4 => CellType::Ptr,
+            8 => CellType::F64,
             _ => CellType::Unknown,
         }
     } else {

@@ -2,13 +2,9 @@
 use Prim.Native.Nat.{ℕ}
 use mathlib.Core.Path.{_≡_, refl}
 use mathlib.Core.Bool.{Bool, true, false, _||_}
-use Rattle.binary64.specs.Binary64.{notANumber, value, isNaN, quiet, sum, opposite, product, quotient, sumBits, differenceBits, productBits, quotientBits}
-use Rattle.binary64.proofs.Special.{sum-nan, product-nan, quotient-nan}
+use Rattle.binary64.specs.Binary64.{value, isNaN, quiet, sum, opposite, product, quotient, sumBits, differenceBits, productBits, quotientBits}
+use Rattle.binary64.proofs.Special.{nan-is, sum-nan, product-nan, quotient-nan}
 use Rattle.machine.specs.Step.{Float, FADD, FSUB, FMUL, FDIV, ofFloats}
-
-nan-is : (a : ℕ) → isNaN a ≡ true → value a ≡ notANumber
-unfolding value
-nan-is a h = rw h
 
 module _ (a b : ℕ) where
   nan-left : (k : Float) → isNaN a ≡ true → ofFloats k a b ≡ quiet

@@ -1,11 +1,15 @@
 -- The test for an I64 cell by its upper bits, and the definition of the integer instructions by their tests in the code's order. Assumes nothing.
 use Prim.Native.Nat.{ℕ, _/_, _%_, _^_, _<_}
-use mathlib.Core.Path.{_≡_, refl, sym, _∙_}
+use mathlib.Core.Path.{_≡_, refl, sym, _∙_, ap}
 use mathlib.Core.Bool.{Bool, true, false, cond, not, _&&_}
+use mathlib.Core.List.{List}
 use native.Mathlib.Omega.{arith}
 use lib.Dec.{eqb, leb}
 use lib.IntN.{natAbs}
+use lib.ListN.{getD}
 use borrow.Author.Tests.{lt-ltb, ne-eqb, ltb-true, eqb-true, eqb-false, not-true}
+use Rattle.inst.specs.Forms.{values}
+use Rattle.inst.proofs.Table.{entry}
 use Rattle.inst.proofs.Laws.{never, and-left, and-right}
 use Rattle.binary64.specs.Binary64.{isNaN}
 use Rattle.nan.specs.declared.CellType.{CellType}
@@ -23,12 +27,16 @@ use Rattle.step_core.proofs.Tests.{passes, fails}
 abbrev i64Bits : ℕ → ℕ
 i64Bits c = c / 2 ^ 48 % 2 ^ 15
 
-other-tag : (a b d : Bool) → eqb (numberOf (cond a F64 (cond false I64 (cond b U64 (cond d Ptr Unknown))))) 2 ≡ false
-unfolding numberOf
-other-tag true b d = refl
-other-tag false true d = refl
-other-tag false false true = refl
-other-tag false false false = refl
+-- of the sixteen tags 2 alone is an I64's, by computation
+abbrev isI64 : ℕ → Bool
+isI64 t = eqb (numberOf (cells.tagged t)) (numberOf I64)
+
+tags : values isI64 0 16 ≡ values (λ t. eqb t 2) 0 16
+unfolding cells.tagged numberOf
+tags = refl
+
+i64-tag : (t : ℕ) → t < 16 → isI64 t ≡ eqb t 2
+i64-tag t h = sym (entry false isI64 16 t h) ∙ ap (λ (xs : List Bool). getD xs t false) tags ∙ entry false (λ n. eqb n 2) 16 t h
 
 module _ (c : ℕ) where
   nan-of-bits : i64Bits c ≡ 0x7FF2 → isNaN c ≡ true
@@ -41,8 +49,8 @@ module _ (c : ℕ) where
   bits-of-tag n t = omega (arith, ltb-true 0x7ff0000000000000 (c % 2 ^ 63) n)
 
   no-bits : (b : Bool) → isNaN c ≡ b → (i64Bits c ≡ 0x7FF2 → ⊥) → is I64 c ≡ false
-  unfolding cells.typeOf cells.tagged numberOf
-  no-bits true n bad = rw (n, ne-eqb (c / 2 ^ 48 % 16) 2 (λ t. bad (bits-of-tag n t))) (other-tag (eqb (c / 2 ^ 48 % 16) 1) (eqb (c / 2 ^ 48 % 16) 3) (eqb (c / 2 ^ 48 % 16) 4))
+  unfolding cells.typeOf numberOf
+  no-bits true n bad = rw n (i64-tag (c / 2 ^ 48 % 16) (omega arith) ∙ ne-eqb (c / 2 ^ 48 % 16) 2 (λ t. bad (bits-of-tag n t)))
   no-bits false n bad = rw n
 
   is-bits : (b : Bool) → eqb (i64Bits c) 0x7FF2 ≡ b → b ≡ is I64 c

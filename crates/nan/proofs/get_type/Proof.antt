@@ -31,16 +31,20 @@ unfolding tagged
 returns-4 c = of-tag _ 4 (sym (c .before .before .is-nan .ensures) ∙ c .before .if1 .taken) (c .match .keys4)
 
 returns-5 : tie.Need-returns-5
-unfolding typeOf tagged
-returns-5 c =
-    let no = c .match .rest in
-    let e = sym (c .before .before .is-nan .ensures) ∙ c .before .if1 .taken in
-    simp (e, ne-eqb _ _ (no .1), ne-eqb _ _ (no .0 .1), ne-eqb _ _ (no .0 .0 .1), ne-eqb _ _ (no .0 .0 .0 .1))
+unfolding tagged
+returns-5 c = of-tag _ 8 (sym (c .before .before .is-nan .ensures) ∙ c .before .if1 .taken) (c .match .keys5)
 
 returns-6 : tie.Need-returns-6
+unfolding typeOf tagged
+returns-6 c =
+    let no = c .match .rest in
+    let e = sym (c .before .before .is-nan .ensures) ∙ c .before .if1 .taken in
+    simp (e, ne-eqb _ _ (no .1), ne-eqb _ _ (no .0 .1), ne-eqb _ _ (no .0 .0 .1), ne-eqb _ _ (no .0 .0 .0 .1), ne-eqb _ _ (no .0 .0 .0 .0 .1))
+
+returns-7 : tie.Need-returns-7
 unfolding typeOf
-returns-6 c = let e = sym (c .before .is-nan .ensures) ∙ c .if1 .left in simp e
+returns-7 c = let e = sym (c .before .is-nan .ensures) ∙ c .if1 .left in simp e
 
 pub get-type-spec : {M : Type 1} → statement M
 get-type-spec =
-    tie.close (tie.spec (λ c κs. search needs) returns returns-2 returns-3 returns-4 returns-5 returns-6)
+    tie.close (tie.spec (λ c κs. search needs) returns returns-2 returns-3 returns-4 returns-5 returns-6 returns-7)
