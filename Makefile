@@ -44,7 +44,7 @@ target/libmm_host.rlib: $(ARCHIVES) $(wildcard host-rust/src/*.rs)
 	$(RUSTC) --crate-type rlib --crate-name mm_host --cfg 'feature="alloc"' $(CALLS) -o $@ host-rust/src/lib.rs
 
 # The original, its source unchanged: only its root file has the probe behind it, since the state is private there.
-target/original/libmm.rlib:
+target/original/libmm.rlib: oracle/probe.rs
 	@[ -e $(MM_SOURCE)/mm.rs ] || { echo "no mm.rs in MM_SOURCE=$(MM_SOURCE)"; exit 1; }
 	mkdir -p target/original
 	cp $(MM_SOURCE)/*.rs target/original/

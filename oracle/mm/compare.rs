@@ -42,10 +42,10 @@ const CONVERSIONS: std::ops::RangeInclusive<u64> = 31..=36;
 // Document 01's one NaN.
 const NAN: u64 = 0x7FF8_0000_0000_0000;
 
-// Bits 48 to 51 of a plain NaN, which the Rust knows no type for: request a of document 02.
+// Bits 48 to 51 of a plain NaN, which the Rust knows no type for: request a of document 02. The conversions that give 0 for it.
 const PLAIN: u64 = 8;
-const TO_SIGNED: u64 = 31;
-const TO_UNSIGNED: u64 = 32;
+const F2I: u64 = 31;
+const F2U: u64 = 32;
 
 fn first_difference(rust: &Mm, ours: &Machine) -> Option<String> {
     let cells = rust.stack().iter().map(|c| c.0.to_bits());
@@ -77,15 +77,15 @@ fn replaced_nan(rust: &mut Mm) -> bool {
 // What request a of document 02 has for a step that takes a plain NaN by its type, and no operand of unknown type.
 fn plain_nan_at(op: u64) -> Edge {
     match op {
-        TO_SIGNED | TO_UNSIGNED => Edge::PlainNaNToZero,
+        F2I | F2U => Edge::PlainNaNToZero,
         _ if CONVERSIONS.contains(&op) => Edge::PlainNaNWrongType,
         _ => Edge::PlainNaNNotI64,
     }
 }
 
-// The Rust, which popped the NaN and panicked, goes on as if it had converted it to 0.
+// The Rust popped the NaN and panicked. It gets what request a has in its place, so that all of the state is compared once more.
 fn put_zero(rust: &mut Mm, op: u64) {
-    rust.stack_mut().push_back(if op == TO_SIGNED { NaNBox::from_i64(0) } else { NaNBox::from_u64(0) });
+    rust.stack_mut().push_back(if op == F2I { NaNBox::from_i64(0) } else { NaNBox::from_u64(0) });
     rust.probe_onward();
 }
 

@@ -27,7 +27,7 @@ impl Edge {
     pub fn why(self) -> &'static str {
         match self {
             Edge::UnknownType => "31, an operand of unknown type: the Rust panics",
-            Edge::PlainNaNToZero => "0, F2I or F2U of a plain NaN: the Rust panics, and gets document 02's cell",
+            Edge::PlainNaNToZero => "F2I or F2U of a plain NaN, for which the Rust, which panics, gets document 02's 0",
             Edge::PlainNaNWrongType => "28, another conversion of a plain NaN: the Rust panics",
             Edge::PlainNaNNotI64 => "30, an integer operation on a plain NaN: the Rust panics",
             Edge::Stream => "32, a stream that isn't 1 or 2: the Rust panics",

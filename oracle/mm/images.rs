@@ -1,5 +1,5 @@
-// The images of the comparison: random ones that live long, damaged copies, cells of each type at each instruction that looks at it, and
-// those at document 01's limits. All from a seed.
+// The images of the comparison. Listed: those at document 01's limits, the short ones, and cells of each type at each instruction that looks
+// at it. From a seed: random ones that live long, and damaged copies.
 
 pub struct Random(pub u64);
 

@@ -9,8 +9,8 @@ use Rattle.integer.specs.Integers.{inc, dec}
 use Rattle.flag.specs.Flags.{cmp, isSet}
 use Rattle.inst.specs.Forms.{formOf, hasNone, hasEight, hasOne, hasName}
 use Rattle.inst.specs.Records.{fits, wellFormed}
-use Rattle.machine.specs.Change.{withStack, withFlags, moved}
-use Rattle.machine.specs.Step.{_must_else_then_, opOf, numberOf, minus, adjust, divides, integerStep, ofFloats, floatStep, ruleOf, convert, compare, read, exec, wellState, step}
+use Rattle.machine.specs.Change.{withStack, withMemory, withFlags, moved}
+use Rattle.machine.specs.Step.{_must_else_then_, opOf, numberOf, minus, adjust, divides, integerStep, ofFloats, floatStep, ruleOf, convert, compare, read, write, exec, wellState, step}
 use Rattle.machine.specs.Marks.{on, answers, Mark, mark, cell, traps, clear, allHold}
 
 steps : List Mark
@@ -35,11 +35,13 @@ steps =
     ∷ mark 5 (0x7FF8000000000000 ∷ 0x7FF5000000000000 ∷ []) (traps 31)
     ∷ mark 8 (0x7FF2000000000001 ∷ 0x7FF8000000000000 ∷ []) (traps 30)
     ∷ mark 8 (0x7FF2000000000001 ∷ 0x7FF2000000000000 ∷ []) (traps 24)
-    -- INC, DEC, CMP and READ take its value, as of any cell
+    -- INC, DEC and CMP take its value, READ and WRITE its address, as of any cell
     ∷ mark 3 (0x7FF8000000000005 ∷ []) (cell 0x7FF2000000000006)
     ∷ mark 4 (0xFFF8000000000005 ∷ []) (cell 0xFFF2000000000006)
     ∷ mark 9 (0x7FF8000000000005 ∷ 0x7FF2000000000005 ∷ []) (clear 17)
     ∷ mark 38 (0x7FF80000000003FF ∷ []) (cell 0x7FF3000000000007)
+    ∷ mark 39 (0x7FF2000000000009 ∷ 0x7FF80000000003FF ∷ 0xFFF8000000000005 ∷ []) (cell 0x7FF2000000000009)
+    ∷ mark 39 (0x7FF2000000000009 ∷ 0x7FF8000000000400 ∷ 0xFFF8000000000005 ∷ []) (traps 25)
     -- 0, 7 and 9 are unknown; with 0 and nothing below it is no NaN
     ∷ mark 31 (0x7FF0000000000001 ∷ []) (traps 31)
     ∷ mark 31 (0xFFF7FFFFFFFFFFFF ∷ []) (traps 31)
@@ -48,5 +50,5 @@ steps =
     ∷ []
 
 computed : allHold steps ≡ true
-unfolding steps on answers allHold withStack withFlags moved _must_else_then_ opOf numberOf minus adjust divides integerStep ofFloats floatStep ruleOf convert compare read exec wellState step formOf hasNone hasEight hasOne hasName fits wellFormed cmp isSet count roundPattern value quotient quotientBits signedWhole unsignedWhole toI64 toU64 ofWhole negative belowZero nan.typeOf nan.tagged nan.value nan.modulo64 nan.signed nan.asU64 nan.boxed inc dec
+unfolding steps on answers allHold withStack withMemory withFlags moved _must_else_then_ opOf numberOf minus adjust divides integerStep ofFloats floatStep ruleOf convert compare read write exec wellState step formOf hasNone hasEight hasOne hasName fits wellFormed cmp isSet count roundPattern value quotient quotientBits signedWhole unsignedWhole toI64 toU64 ofWhole negative belowZero nan.typeOf nan.tagged nan.value nan.modulo64 nan.signed nan.asU64 nan.boxed inc dec
 computed = refl

@@ -5,7 +5,7 @@ mod Sound
 pub mod Valid
 pub mod Tables
 pub mod Marks
-pub mod PlainNaN
+mod PlainNaN
 pub mod Fuel
 pub mod Histories
 mod Only

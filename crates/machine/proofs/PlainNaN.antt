@@ -1,38 +1,67 @@
--- What a plain NaN does, by the step's definitions. Assumes nothing.
-use Prim.Native.Nat.{ℕ, _≤_, _<_}
-use mathlib.Core.Path.{_≡_, refl, sym, _∙_, subst}
+-- A NaN's type, and what a plain NaN does, by the step's definitions. Assumes nothing.
+use Prim.Native.Nat.{ℕ, zero, suc, _/_, _%_, _^_, _≤_, _<_}
+use mathlib.Core.Path.{_≡_, refl, sym, _∙_, ap, subst}
 use mathlib.Core.Bool.{Bool, true, false, cond, _&&_}
-use borrow.Author.Tests.{lt-ltb, le-leb}
-use Rattle.binary64.specs.Binary64.{isNaN, quiet, notANumber, signedWhole, unsignedWhole, toI64, toU64, negative, belowZero}
+use mathlib.Core.List.{List, [], _∷_}
+use mathlib.Core.Logic.{_⊎_, inl, inr}
+use native.Mathlib.Omega.{arith}
+use lib.Dec.{leb}
+use lib.IntN.{pos}
+use lib.ListN.{getD, set}
+use borrow.Author.Tests.{lt-ltb, le-leb, leb-true}
+use Rattle.binary64.specs.Binary64.{isNaN, quiet, notANumber, value, signedWhole, unsignedWhole, toI64, toU64, negative, belowZero}
 use Rattle.binary64.proofs.Special.{nan-is, nan-result, special}
-use Rattle.nan.specs.declared.CellType.the-variants.{F64, I64}
+use Rattle.nan.specs.declared.CellType.{CellType}
+use Rattle.nan.specs.declared.CellType.the-variants.{F64, I64, Unknown}
 use Rattle.nan.specs.Cells.{tagged, typeOf}
+use Rattle.inst.specs.Forms.{values}
+use Rattle.inst.proofs.Table.{entry}
+use Rattle.inst.proofs.Laws.{never}
 use Rattle.machine.specs.declared.Machine.{Machine}
-use Rattle.machine.specs.Change.{top, popped}
-use Rattle.machine.specs.Step.{Stepped, _must_else_then_, numberOf, is, typeKnown, trap, Integer, integerStep, Float, FADD, FSUB, FMUL, FDIV, ofFloats, ruleOf, convert}
-use Rattle.machine.specs.PlainNaN.{PlainNaN, ConvertsToZero, ConvertsNot, PlainNaNs, NaNResultConverts, ZeroByZeroConverts}
+use Rattle.machine.specs.Change.{withStack, moved, onward, top, popped, replaced}
+use Rattle.machine.specs.Step.{Stepped, succeeds, outputs, trap, ill, _must_else_then_, numberOf, is, typeKnown, Integer, integerStep, Float, FADD, FSUB, FMUL, FDIV, ofFloats, floatStep, ruleOf, convert}
+use Rattle.machine.specs.PlainNaN.{types, TypesOfNaNs, PlainNaN, ConvertsToZero, TrapsWrongType, PlainNaNs, NaNResultConverts, ZeroByZeroConverts}
+use Rattle.machine.proofs.Cases.{must-case}
+
+-- ---- the type by the sixteen tags, computed
+
+table : values tagged 0 16 ≡ types
+unfolding tagged
+table = refl
+
+pub types-of-nans : TypesOfNaNs
+unfolding typeOf
+types-of-nans c n =
+    let t = c / 2 ^ 48 % 16 in
+    rw n (sym (entry Unknown tagged 16 t (omega arith)) ∙ ap (λ (ts : List CellType). getD ts t Unknown) table)
 
 is-f64 : (c : ℕ) → PlainNaN c → typeOf c ≡ F64
-unfolding typeOf tagged
-is-f64 c p = rw (p .0, p .1)
+is-f64 c p = types-of-nans c (p .0) ∙ ap (λ (t : ℕ). getD types t Unknown) (p .1)
 
-module _ (m : Machine) (h : 0 < m .height) (p : PlainNaN (top m)) where
-  to-zero : ConvertsToZero m
-  unfolding convert _must_else_then_ ruleOf numberOf toI64 toU64 signedWhole unsignedWhole belowZero negative
-  to-zero =
-      let some = lt-ltb 0 (m .height) h in
-      let t = is-f64 (top m) p in
-      let v = nan-is (top m) (p .0) in
-      record { type-is = t; f2i = simp (some, t, v); f2u = simp (some, t, v) }
+-- ---- conversions
 
-  not-whole : ConvertsNot m
+module _ (m : Machine) (h : 0 < m .height) where
+  zero-of : typeOf (top m) ≡ F64 → toI64 (top m) ≡ pos 0 → toU64 (top m) ≡ 0 → belowZero (top m) ≡ false → ConvertsToZero m
   unfolding convert _must_else_then_ ruleOf numberOf
-  not-whole =
+  zero-of t i u b = let some = lt-ltb 0 (m .height) h in record { type-is = t; f2i = simp (some, t, i); f2u = simp (some, t, u, b) }
+
+  nan-to-zero : PlainNaN (top m) → ConvertsToZero m
+  unfolding toI64 toU64 signedWhole unsignedWhole belowZero negative
+  nan-to-zero p = let v = nan-is (top m) (p .0) in zero-of (is-f64 (top m) p) (rw v) (rw v) (rw v)
+
+  zero-to-zero : top m ≡ 0 → ConvertsToZero m
+  unfolding typeOf value toI64 toU64 signedWhole unsignedWhole belowZero negative
+  zero-to-zero e = zero-of (rw e) (rw e) (rw e) (rw e)
+
+  not-whole : PlainNaN (top m) → TrapsWrongType m
+  unfolding convert _must_else_then_ ruleOf numberOf
+  not-whole p =
       let some = lt-ltb 0 (m .height) h in
       let t = is-f64 (top m) p in
       record { i2f = simp (some, t); i2u = simp (some, t); u2i = simp (some, t); u2f = simp (some, t) }
 
--- an integer instruction's tests where one operand is an F64, and x and y are what they ask of the other
+-- ---- integer operations: their tests where one operand is an F64, and x and y are what they ask of the other
+
 module _ (m p : Machine) (rest : Stepped) where
   last-is : (x y : Bool) → (m must true else 20 then p must x && true else 31 then p must y && false else 30 then rest) ≡ trap (cond x 30 31) p
   unfolding _must_else_then_
@@ -54,13 +83,7 @@ module _ (k : Integer) (m : Machine) (h : 2 ≤ m .height) where
   unfolding integerStep numberOf
   as-below p = simp (le-leb 2 (m .height) h, is-f64 (top (popped m)) p) (below-is m (popped m) _ (typeKnown (top m)))
 
-pub plain-nans : PlainNaNs
-plain-nans = record { is-f64 = is-f64; converts = to-zero; converts-not = not-whole; last = as-last; below = as-below }
-
 -- ---- results of arithmetic
-
-quiet-converts : (m : Machine) → 0 < m .height → top m ≡ quiet → ConvertsToZero m
-quiet-converts m h e = to-zero m h (subst PlainNaN (sym e) (refl, refl))
 
 is-quiet : (k : Float) (a b : ℕ) → isNaN (ofFloats k a b) ≡ true → ofFloats k a b ≡ quiet
 unfolding ofFloats
@@ -69,8 +92,69 @@ is-quiet FSUB = nan-result .1
 is-quiet FMUL = nan-result .2
 is-quiet FDIV = nan-result .3
 
+plain : (c : ℕ) → c ≡ quiet → PlainNaN c
+plain c e = subst PlainNaN (sym e) (refl, refl)
+
+pub plain-nans : PlainNaNs
+plain-nans = record {
+  converts = nan-to-zero;
+  wrong-type = not-whole;
+  last = as-last;
+  below = as-below;
+  results = λ k a b n. plain (ofFloats k a b) (is-quiet k a b n);
+}
+
+-- a slot after a store: the value, or 0 past the end
+stored : (xs : List ℕ) (i v : ℕ) → (getD (set xs i v) i 0 ≡ v) ⊎ (getD (set xs i v) i 0 ≡ 0)
+stored [] i v = inr refl
+stored (x ∷ xs) zero v = inl refl
+stored (x ∷ xs) (suc i) v = stored xs i v
+
+top-after : (v : ℕ) (m : Machine) → (top (onward (replaced v m)) ≡ v) ⊎ (top (onward (replaced v m)) ≡ 0)
+unfolding withStack moved
+top-after v m = stored (m .stack) _ v
+
+-- Q of the machine where a step succeeds
+unfoldable After : (Machine → Type 0) → Stepped → Type 0
+After Q (succeeds m) = Q m
+After Q (outputs c m) = Unit {0}
+After Q (trap t m) = Unit {0}
+After Q ill = Unit {0}
+
+-- whatever holds of the machine with the result in its place, over all that is on its stack, holds of what a float instruction leaves
+float-leaves : (Q : Machine → Type 0) (k : Float) (m m' : Machine) → floatStep k m ≡ succeeds m'
+    → (2 ≤ m .height → Q (onward (replaced (ofFloats k (top (popped m)) (top m)) (popped m)))) → Q m'
+unfolding floatStep After
+float-leaves Q k m m' e q = subst (After Q) e (must-case (After Q) m (leb 2 (m .height)) 20 _ tt (λ h. q (leb-true 2 (m .height) h)))
+
+module _ (k : Float) (m : Machine) (h : 2 ≤ m .height) where
+  abbrev result : ℕ
+  result = ofFloats k (top (popped m)) (top m)
+
+  abbrev left : Machine
+  left = onward (replaced result (popped m))
+
+  some-left : 0 < left .height
+  unfolding withStack moved
+  some-left = omega arith
+
+  quiet-left : result ≡ quiet → ConvertsToZero left
+  quiet-left q = elim (top-after result (popped m)) [
+    | inl e ↦ nan-to-zero left some-left (plain (top left) (e ∙ q))
+    | inr e ↦ zero-to-zero left some-left e
+  ]
+
+  nan-left : isNaN (top left) ≡ true → ConvertsToZero left
+  nan-left n = elim (top-after result (popped m)) [
+    | inl e ↦ quiet-left (is-quiet k _ _ (subst (λ (c : ℕ). isNaN c ≡ true) e n))
+    | inr e ↦ never (subst (λ (c : ℕ). isNaN c ≡ true) e n)
+  ]
+
 pub nan-result-converts : NaNResultConverts
-nan-result-converts k a b n m h e = quiet-converts m h (e ∙ is-quiet k a b n)
+nan-result-converts k m m' e = float-leaves (λ (x : Machine). isNaN (top x) ≡ true → ConvertsToZero x) k m m' e (nan-left k m)
 
 pub zero-by-zero-converts : ZeroByZeroConverts
-zero-by-zero-converts s t a b x y m h e = quiet-converts m h (e ∙ special s t 0 0 notANumber notANumber .zero-by-zero a b x y)
+unfolding ofFloats
+zero-by-zero-converts s t m m' e x y =
+    let q = special s t 0 0 notANumber notANumber .zero-by-zero (top (popped m)) (top m) x y in
+    (q, float-leaves ConvertsToZero FDIV m m' e (λ h. quiet-left FDIV m h q))

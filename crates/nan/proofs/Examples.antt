@@ -1,7 +1,6 @@
 -- Worked examples of the definitions, computed.
 -- Assumes nothing.
 use mathlib.Core.Path.{_≡_, refl}
-use mathlib.Core.List.{[], _∷_, map}
 use lib.IntN.{negsuc}
 use Rattle.nan.specs.declared.CellType.the-variants.{F64, I64, U64, Ptr, Unknown}
 use Rattle.nan.specs.Cells.{tagged, typeOf, value, modulo64, signed, asU64, boxed, fromI64, fromU64}
@@ -12,16 +11,13 @@ examples :
     × (fromU64 0xFFFFFFFFFFFFFFFF ≡ 0xFFF3000000000001)
     × (fromI64 (negsuc 0x7FFFFFFFFFFFFFFF) ≡ 0xFFF2000000000000)  -- -2 ^ 63
     × (typeOf 0x7FF0000000000000 ≡ F64)  -- infinity
-    × (typeOf 0x7FF0000000000001 ≡ Unknown)
-    × (typeOf 0xFFF8000000000000 ≡ F64)
-    × (typeOf 0x7FF8000000000001 ≡ F64)
+    × (typeOf 0x7FF1000000000000 ≡ F64)
+    × (typeOf 0xFFF2000000000000 ≡ I64)
+    × (typeOf 0x7FF3000000000000 ≡ U64)
+    × (typeOf 0x7FF4000000000000 ≡ Ptr)
+    × (typeOf 0x7FF8000000000000 ≡ F64)
     × (typeOf 0xFFF8FFFFFFFFFFFF ≡ F64)
-    × (typeOf 0x7FF9000000000000 ≡ Unknown)
+    × (typeOf 0x7FF0000000000001 ≡ Unknown)
+    × (typeOf 0xFFF9000000000000 ≡ Unknown)
 unfolding tagged typeOf value modulo64 signed asU64 boxed
-examples = (refl, refl, refl, refl, refl, refl, refl, refl, refl, refl)
-
--- the type by bits 48 to 51, from 0 to 15
-types : map tagged (0 ∷ 1 ∷ 2 ∷ 3 ∷ 4 ∷ 5 ∷ 6 ∷ 7 ∷ 8 ∷ 9 ∷ 10 ∷ 11 ∷ 12 ∷ 13 ∷ 14 ∷ 15 ∷ [])
-    ≡ Unknown ∷ F64 ∷ I64 ∷ U64 ∷ Ptr ∷ Unknown ∷ Unknown ∷ Unknown ∷ F64 ∷ Unknown ∷ Unknown ∷ Unknown ∷ Unknown ∷ Unknown ∷ Unknown ∷ Unknown ∷ []
-unfolding tagged
-types = refl
+examples = (refl, refl, refl, refl, refl, refl, refl, refl, refl, refl, refl, refl, refl)

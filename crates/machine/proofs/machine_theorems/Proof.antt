@@ -5,7 +5,7 @@ use Rattle.machine.proofs.Only.{only-one}
 use Rattle.machine.proofs.Does.{traps-leave, steps-touch}
 use Rattle.machine.proofs.Fuel.{reads-to-end, walks-to-end}
 use Rattle.machine.proofs.Marks.{marks-hold}
-use Rattle.machine.proofs.PlainNaN.{plain-nans, nan-result-converts, zero-by-zero-converts}
+use Rattle.machine.proofs.PlainNaN.{types-of-nans, plain-nans, nan-result-converts, zero-by-zero-converts}
 use Rattle.machine.proofs.machine_theorems.Statement.{statement}
 use Rattle.machine.proofs.machine_theorems.Tie as tie
 
@@ -23,6 +23,7 @@ machine-theorems-spec =
       reads-to-end = reads-to-end;
       walks-to-end = walks-to-end;
       marks-hold = marks-hold;
+      types-of-nans = types-of-nans;
       plain-nans = plain-nans;
       nan-result-converts = nan-result-converts;
       zero-by-zero-converts = zero-by-zero-converts;
