@@ -2,15 +2,14 @@
 use mathlib.Core.Path.{_≡_, refl}
 use mathlib.Core.Bool.{true}
 use mathlib.Core.List.{List, [], _∷_}
-use Rattle.binary64.specs.Rounding.{count, roundPattern}
-use Rattle.binary64.specs.Binary64.{value, quotient, quotientBits, signedWhole, unsignedWhole, toI64, toU64, ofWhole, negative, belowZero}
+use Rattle.binary64.specs.Binary64.{value, quotient, quotientBits, signedWhole, unsignedWhole, toI64, toU64, negative, belowZero}
 use Rattle.nan.specs.Cells as nan
 use Rattle.integer.specs.Integers.{inc, dec}
 use Rattle.flag.specs.Flags.{cmp, isSet}
 use Rattle.inst.specs.Forms.{formOf, hasNone, hasEight, hasOne, hasName}
 use Rattle.inst.specs.Records.{fits, wellFormed}
 use Rattle.machine.specs.Change.{withStack, withMemory, withFlags, moved}
-use Rattle.machine.specs.Step.{_must_else_then_, opOf, numberOf, minus, adjust, divides, integerStep, ofFloats, floatStep, ruleOf, convert, compare, read, write, exec, wellState, step}
+use Rattle.machine.specs.Step.{_must_else_then_, opOf, numberOf, adjust, divides, integerStep, ofFloats, floatStep, ruleOf, convert, compare, read, write, exec, wellState, step}
 use Rattle.machine.specs.Marks.{on, answers, Mark, mark, cell, traps, clear, allHold}
 
 steps : List Mark
@@ -50,5 +49,5 @@ steps =
     ∷ []
 
 computed : allHold steps ≡ true
-unfolding steps on answers allHold withStack withMemory withFlags moved _must_else_then_ opOf numberOf minus adjust divides integerStep ofFloats floatStep ruleOf convert compare read write exec wellState step formOf hasNone hasEight hasOne hasName fits wellFormed cmp isSet count roundPattern value quotient quotientBits signedWhole unsignedWhole toI64 toU64 ofWhole negative belowZero nan.typeOf nan.tagged nan.value nan.modulo64 nan.signed nan.asU64 nan.boxed inc dec
+unfolding steps on answers allHold withStack withMemory withFlags moved _must_else_then_ opOf numberOf adjust divides integerStep ofFloats floatStep ruleOf convert compare read write exec wellState step formOf hasNone hasEight hasOne hasName fits wellFormed cmp isSet value quotient quotientBits signedWhole unsignedWhole toI64 toU64 negative belowZero nan.typeOf nan.tagged nan.value nan.modulo64 nan.signed nan.asU64 nan.boxed inc dec
 computed = refl

@@ -1,4 +1,5 @@
 pub mod Cases
+pub mod Tests
 mod Lists
 pub mod Does
 mod Sound

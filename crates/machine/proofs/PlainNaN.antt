@@ -1,7 +1,7 @@
 -- A NaN's type, and what a plain NaN does, by the step's definitions. Assumes nothing.
 use Prim.Native.Nat.{ℕ, zero, suc, _/_, _%_, _^_, _≤_, _<_}
 use mathlib.Core.Path.{_≡_, refl, sym, _∙_, ap, subst}
-use mathlib.Core.Bool.{Bool, true, false, cond, _&&_}
+use mathlib.Core.Bool.{Bool, true, false, cond, _&&_, and-true, and-false}
 use mathlib.Core.List.{List, [], _∷_}
 use mathlib.Core.Logic.{_⊎_, inl, inr}
 use native.Mathlib.Omega.{arith}
@@ -22,6 +22,7 @@ use Rattle.machine.specs.Change.{withStack, moved, onward, top, popped, 
 use Rattle.machine.specs.Step.{Stepped, succeeds, outputs, trap, ill, _must_else_then_, numberOf, is, typeKnown, Integer, integerStep, Float, FADD, FSUB, FMUL, FDIV, ofFloats, floatStep, ruleOf, convert}
 use Rattle.machine.specs.PlainNaN.{types, TypesOfNaNs, PlainNaN, ConvertsToZero, TrapsWrongType, PlainNaNs, NaNResultConverts, ZeroByZeroConverts}
 use Rattle.machine.proofs.Cases.{must-case}
+use Rattle.machine.proofs.Tests.{not-both-i64}
 
 -- ---- the type by the sixteen tags, computed
 
@@ -60,28 +61,21 @@ module _ (m : Machine) (h : 0 < m .height) where
       let t = is-f64 (top m) p in
       record { i2f = simp (some, t); i2u = simp (some, t); u2i = simp (some, t); u2f = simp (some, t) }
 
--- ---- integer operations: their tests where one operand is an F64, and x and y are what they ask of the other
-
-module _ (m p : Machine) (rest : Stepped) where
-  last-is : (x y : Bool) → (m must true else 20 then p must x && true else 31 then p must y && false else 30 then rest) ≡ trap (cond x 30 31) p
-  unfolding _must_else_then_
-  last-is true true = refl
-  last-is true false = refl
-  last-is false y = refl
-
-  below-is : (x : Bool) → (m must true else 20 then p must x else 31 then p must false else 30 then rest) ≡ trap (cond x 30 31) p
-  unfolding _must_else_then_
-  below-is true = refl
-  below-is false = refl
+-- ---- integer operations
 
 module _ (k : Integer) (m : Machine) (h : 2 ≤ m .height) where
+  -- where one operand isn't I64 but known, and x says whether the other is known
+  trapped : (x : Bool) → (is I64 (top (popped m)) && is I64 (top m)) ≡ false → (typeKnown (top (popped m)) && typeKnown (top m)) ≡ x
+      → integerStep k m ≡ trap (cond x 30 31) (popped m)
+  trapped x i e = not-both-i64 k m (le-leb 2 (m .height) h) i ∙ ap (λ (y : Bool). trap (cond y 30 31) (popped m)) e
+
   as-last : PlainNaN (top m) → integerStep k m ≡ trap (cond (typeKnown (top (popped m))) 30 31) (popped m)
-  unfolding integerStep numberOf
-  as-last p = simp (le-leb 2 (m .height) h, is-f64 (top m) p) (last-is m (popped m) _ (typeKnown (top (popped m))) (is I64 (top (popped m))))
+  unfolding numberOf
+  as-last p = let t = is-f64 (top m) p in trapped (typeKnown (top (popped m))) (simp (t, and-false)) (simp (t, and-true))
 
   as-below : PlainNaN (top (popped m)) → integerStep k m ≡ trap (cond (typeKnown (top m)) 30 31) (popped m)
-  unfolding integerStep numberOf
-  as-below p = simp (le-leb 2 (m .height) h, is-f64 (top (popped m)) p) (below-is m (popped m) _ (typeKnown (top m)))
+  unfolding numberOf
+  as-below p = let t = is-f64 (top (popped m)) p in trapped (typeKnown (top m)) (simp t) (simp t)
 
 -- ---- results of arithmetic
 
@@ -105,14 +99,14 @@ plain-nans = record {
 }
 
 -- a slot after a store: the value, or 0 past the end
-stored : (xs : List ℕ) (i v : ℕ) → (getD (set xs i v) i 0 ≡ v) ⊎ (getD (set xs i v) i 0 ≡ 0)
-stored [] i v = inr refl
-stored (x ∷ xs) zero v = inl refl
-stored (x ∷ xs) (suc i) v = stored xs i v
+slot-after : (xs : List ℕ) (i v : ℕ) → (getD (set xs i v) i 0 ≡ v) ⊎ (getD (set xs i v) i 0 ≡ 0)
+slot-after [] i v = inr refl
+slot-after (x ∷ xs) zero v = inl refl
+slot-after (x ∷ xs) (suc i) v = slot-after xs i v
 
 top-after : (v : ℕ) (m : Machine) → (top (onward (replaced v m)) ≡ v) ⊎ (top (onward (replaced v m)) ≡ 0)
 unfolding withStack moved
-top-after v m = stored (m .stack) _ v
+top-after v m = slot-after (m .stack) _ v
 
 -- Q of the machine where a step succeeds
 unfoldable After : (Machine → Type 0) → Stepped → Type 0

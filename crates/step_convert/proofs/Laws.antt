@@ -15,7 +15,7 @@ use Rattle.machine.specs.declared.Machine.{Machine}
 use Rattle.machine.specs.Step.{Stepped, succeeds, trap, _must_else_then_, typeKnown, whole, numberOf, minus, convert, Conversion, F2I, F2U, I2F, I2U, U2I, U2F, ruleOf}
 use Rattle.machine.specs.Change.{onward, top, popped, replaced}
 use Rattle.step_convert.specs.FirstBytes.{conversionTrap}
-use Rattle.step_core.proofs.Tests.{passes, fails}
+use Rattle.machine.proofs.Tests.{passes, fails}
 
 -- ---- by the cell's type
 

@@ -1,7 +1,7 @@
 -- The test for an I64 cell by its upper bits, and the definition of the integer instructions by their tests in the code's order. Assumes nothing.
 use Prim.Native.Nat.{ℕ, _/_, _%_, _^_, _<_}
 use mathlib.Core.Path.{_≡_, refl, sym, _∙_, ap}
-use mathlib.Core.Bool.{Bool, true, false, cond, not, _&&_}
+use mathlib.Core.Bool.{Bool, true, false, not, _&&_}
 use mathlib.Core.List.{List}
 use native.Mathlib.Omega.{arith}
 use lib.Dec.{eqb, leb}
@@ -17,10 +17,10 @@ use Rattle.nan.specs.declared.CellType.the-variants.{F64, I64, U64, Ptr, Unknow
 use Rattle.nan.specs.Cells as cells
 use Rattle.nan.proofs.Laws.{abs-value}
 use Rattle.machine.specs.declared.Machine.{Machine}
-use Rattle.machine.specs.Step.{Stepped, succeeds, trap, _must_else_then_, is, typeKnown, numberOf, Integer, IDIV, divides, ofCells, integerStep}
+use Rattle.machine.specs.Step.{succeeds, trap, _must_else_then_, is, typeKnown, numberOf, Integer, IDIV, divides, ofCells, integerStep}
 use Rattle.machine.specs.Change.{onward, top, popped, replaced}
 use Rattle.step_integer.specs.FirstBytes.{typeTrap}
-use Rattle.step_core.proofs.Tests.{passes, fails}
+use Rattle.machine.proofs.Tests.{passes, fails, not-both-i64}
 
 -- ---- I64 by the bits 48 to 62
 
@@ -79,11 +79,6 @@ known-both a b h =
 
 -- ---- an integer instruction by its tests
 
-mistyped : (k i : Bool) (p : Machine) (rest : Stepped) → i ≡ false → (p must k else 31 then p must i else 30 then rest) ≡ trap (cond k 30 31) p
-unfolding _must_else_then_
-mistyped true i p rest h = fails p i 30 rest h
-mistyped false i p rest h = refl
-
 module _ (k : Integer) (m : Machine) where
   pub integer-short : leb 2 (m .height) ≡ false → integerStep k m ≡ trap 20 m
   unfolding integerStep
@@ -91,8 +86,8 @@ module _ (k : Integer) (m : Machine) where
 
   module _ (h : leb 2 (m .height) ≡ true) where
     pub integer-types : (is I64 (top (popped m)) && is I64 (top m)) ≡ false → integerStep k m ≡ trap (typeTrap (top (popped m)) (top m)) (popped m)
-    unfolding integerStep typeTrap
-    integer-types e = passes _ _ _ _ h ∙ mistyped (typeKnown (top (popped m)) && typeKnown (top m)) _ _ _ e
+    unfolding typeTrap
+    integer-types e = not-both-i64 k m h e
 
     module _ (e : (is I64 (top (popped m)) && is I64 (top m)) ≡ true) where
       typed : integerStep k m ≡ (popped m must divides k (top m) else 24 then succeeds (onward (replaced (ofCells k (top (popped m)) (top m)) (popped m))))
