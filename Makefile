@@ -1,5 +1,5 @@
 # `make run` runs an image; `make test` is the whole of the tests; `make oracle` compares with the Rust and the host alone.
-.PHONY: run test oracle floats images differences labels odd random stack mm host-rust bench staticlib record
+.PHONY: run test oracle floats images differences labels odd random rewritten stack mm host-rust bench staticlib record
 
 IMAGE ?= crates/runimage/stdin
 
@@ -17,7 +17,7 @@ test:
 	rt fmt --check
 	MM_SOURCE=$(MM_SOURCE) bin/test
 
-oracle: floats images differences labels odd random stack mm
+oracle: floats images differences labels odd random rewritten stack mm
 
 floats:
 	rt staticlib float64_c
@@ -58,7 +58,7 @@ mm:
 	else echo "mm: no mm.rs in MM_SOURCE=$(MM_SOURCE), so nothing was compared with the Rust; crate replay stands in"; fi
 
 SEED ?= 1
-IMAGES ?= 138000
+IMAGES ?= 140000
 
 .PHONY: compared
 compared: $(ARCHIVES) target/original/libmm.rlib
@@ -93,6 +93,11 @@ random: $(ARCHIVES)
 	$(RUSTC) $(CALLS) -o target/oracle-random oracle/random.rs
 	target/oracle-random $(SEED) 1000000
 	$(call under_valgrind,target/oracle-random $(SEED) 5000 heap)
+
+# images written out, loaded again and written out again
+rewritten: $(ARCHIVES)
+	$(RUSTC) $(CALLS) -o target/oracle-rewritten oracle/rewritten.rs
+	target/oracle-rewritten $(SEED) 24000
 
 # the stack that each call needs, and that docs/HOST.md says so
 stack: $(ARCHIVES)

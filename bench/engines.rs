@@ -140,8 +140,8 @@ pub fn loads(image: &Vec<u8>, memory: &mut Memory) -> [f64; 2] {
     [rust, since(start)]
 }
 
-/// ns of writing a program out: the original's as_bytes of each instruction, ours.
-pub fn encodes(image: &Vec<u8>) -> [f64; 2] {
+/// ns of writing a program out: the original's as_bytes of each instruction, ours; and of our call for the room.
+pub fn encodes(image: &Vec<u8>) -> [f64; 3] {
     let (_, program) = original(image);
     let start = Instant::now();
     let written: Vec<u8> = program.iter().flat_map(|(_, inst)| inst.as_bytes()).collect();
@@ -153,5 +153,9 @@ pub fn encodes(image: &Vec<u8>) -> [f64; 2] {
     let encoded = program.encode(&mut out).expect("there is room");
     let ours = since(start);
     assert_eq!(encoded, written);
-    [rust, ours]
+    let start = Instant::now();
+    let room = program.encoded_size();
+    let asked = since(start);
+    assert_eq!(room, Ok(written.len()));
+    [rust, ours, asked]
 }

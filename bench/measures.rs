@@ -48,7 +48,7 @@ fn straight_code(rounds: usize) {
     tell("straight", &ns.map(|n| n / many as f64));
 }
 
-/// ns an instruction and bytes: the original, ours.
+/// ns and bytes: the original, ours; and our call for the room beside our encoding, as the original has none.
 fn load_and_encode(rounds: usize) {
     let nops = (0..4_000).fold(Program::started(), |p, _| p.op(0));
     for (name, Program(image)) in [("straight code", straight(1_500)), ("400 labels", Program::started().labels(400)), ("4,000 NOPs", nops)]
@@ -57,8 +57,9 @@ fn load_and_encode(rounds: usize) {
         let count = memory.load(&image).0.count() as f64;
         let [rust, ours] = least(100 * rounds, || engines::loads(&image, &mut memory));
         tell(&format!("load, {name}"), &[rust, ours, image.len() as f64, count]);
-        let [rust, ours] = least(100 * rounds, || engines::encodes(&image));
+        let [rust, ours, room] = least(100 * rounds, || engines::encodes(&image));
         tell(&format!("encode, {name}"), &[rust, ours, image.len() as f64, count]);
+        tell(&format!("room: {name}"), &[room, ours, count]);
     }
 }
 

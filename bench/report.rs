@@ -68,6 +68,14 @@ fn load_and_encode(rows: &[&Row]) {
     }
 }
 
+fn room(rows: &[&Row]) {
+    eprintln!("\n| the room asked for | instructions | ns an instruction | of encoding's time |\n|---|---|---|---|");
+    for row in rows {
+        let (asked, encoded, count) = (mean(row, 0), mean(row, 1), mean(row, 2));
+        eprintln!("| {} | {count} | {:.1} | {:.2} |", &row.0[6..], asked / count, asked / encoded);
+    }
+}
+
 fn records(rows: &[&Row]) {
     eprintln!("\n| through label records, in place | core | in place | in place / core |\n|---|---|---|---|");
     for row in rows {
@@ -87,6 +95,7 @@ pub fn means(millions: &str, rounds: &str, file: &str, programs: &[&str]) {
     let (rust, ours, alone) = (mean(once, 0), mean(once, 1), mean(once, 2));
     eprintln!("\nstraight code that runs once, ns an instruction: load and run Rust {rust:.1}, ours {ours:.1}, {:.1} times faster; our run alone {alone:.1}", rust / ours);
     load_and_encode(&rows.iter().filter(|row| row.0.contains(", ") && !row.0.contains(": ")).collect::<Vec<_>>());
+    room(&named("room: "));
     records(&named("records: "));
     let bars: Vec<(String, [f64; 3])> =
         named("run: ").iter().map(|row| (row.0[5..].to_string(), [mean(row, 0), mean(row, 1), mean(row, 2)])).collect();

@@ -1,5 +1,5 @@
 /*
- * mm's load, run and encode, proved in Rattle: the calls of libmm_host.a, for x86-64 Linux.
+ * mm's load, run and encode, and the room that encode needs, proved in Rattle: the calls of libmm_host.a, for x86-64 Linux.
  *
  * Every call works on memory that the caller lends and no other, and keeps nothing: calls on different memory may run at the same time. A slice of memory
  * crosses as its address and its length in bytes. It may lie at any address, also an odd one, but not at NULL, and may have any length and contents: what a
@@ -44,7 +44,7 @@ extern "C" {
 #define MM_FLAGS_AT 17432       /* a byte: bits 0 to 7 are E, L, LE, G, GE, NE, Z, NZ */
 #define MM_HALTED_AT 17433      /* a byte, 0 or 1 */
 
-/* Why a load (1 to 8, 10) or an encoding (9, 10) was refused. */
+/* Why a load (1 to 8, 10), an encoding (9, 10) or the question for its size (9; 10 where no output would have the room) was refused. */
 enum mm_refusal {
     MM_IMAGE_TOO_LONG = 1,        /* the image is longer than 16,384 bytes */
     MM_UNDEFINED_BYTE = 2,        /* an instruction starts with a byte that stands for no instruction */
@@ -99,14 +99,14 @@ struct mm_ran {
     uint64_t dumped; /* how many cells were dumped */
 };
 
-/* What mm_encode answers. */
+/* What mm_encode and mm_encoded_size answer. */
 struct mm_encoded {
-    uint64_t number; /* 0, or why the encoding was refused: enum mm_refusal */
-    uint64_t size;   /* how many bytes were written; 0 with a number */
+    uint64_t number; /* 0, or why the call was refused: enum mm_refusal */
+    uint64_t size;   /* how many bytes were written, or are needed; 0 with a number */
 };
 
 /* Loads an image: fills both tables from the front and makes the machine the fresh one, whatever they held. A refused load writes nothing. The tables hold
- * places in the image, so a run and an encoding are lent the same image, the same tables and the count. */
+ * places in the image, so the other calls are lent the same image, the same tables and the count. */
 struct mm_loaded mm_load(const uint8_t *image, size_t image_len, uint8_t *insts, size_t insts_len, uint8_t *labels, size_t labels_len, uint8_t *machine,
                          size_t machine_len);
 
@@ -115,9 +115,14 @@ struct mm_loaded mm_load(const uint8_t *image, size_t image_len, uint8_t *insts,
 struct mm_ran mm_run(const uint8_t *image, size_t image_len, const uint8_t *insts, size_t insts_len, const uint8_t *labels, size_t labels_len, uint64_t count,
                      uint8_t *machine, size_t machine_len, uint64_t limit, uint8_t *dumps, size_t dumps_len);
 
-/* Writes the program out as an image, the appended HALT included. It is at most one byte longer than the image that it was loaded from. It loads again, as the
- * same program, unless that byte makes it longer than MM_IMAGE_MAX. Both are tested, and not yet proved. */
+/* Writes the program out as an image, the appended HALT included. It takes the length of the image that it was loaded from, and one byte more exactly if HALT
+ * was appended. What is written loads again, as the same program, unless that byte makes it longer than MM_IMAGE_MAX, and writing that gives the same bytes.
+ * All this is proved, for every image that a load accepts; MM_ILL_RECORD is never answered then. */
 struct mm_encoded mm_encode(const uint8_t *image, size_t image_len, const uint8_t *insts, size_t insts_len, uint64_t count, uint8_t *out, size_t out_len);
+
+/* The room that mm_encode needs, without writing: the size that it then answers. MM_ILL_RECORD where mm_encode answers it; MM_NO_ROOM where the size passes
+ * 2^64 - 1 bytes, which a loaded program's never does. Without asking: the image's length and one byte more is enough for every loaded program. */
+struct mm_encoded mm_encoded_size(const uint8_t *image, size_t image_len, const uint8_t *insts, size_t insts_len, uint64_t count);
 
 /* The number at a place in a machine, a table or a dump buffer. */
 static inline uint64_t mm_number_at(const uint8_t *bytes, size_t at) {

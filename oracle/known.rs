@@ -1,7 +1,7 @@
 // An image whose course is known by document 01: LABEL _start, PUSH, dump, CALL of _start, over and over. What a load, a run and an
 // encoding answer and leave follows from what is lent, and is worked out here.
 use crate::lent::layout::*;
-use crate::lent::put_number;
+use crate::lent::{put_number, table};
 
 const CELL: u64 = 0x7FF2_0000_0000_0009;
 
@@ -32,13 +32,6 @@ pub fn image() -> Vec<u8> {
 pub fn images() -> Vec<(Vec<u8>, u64)> {
     let cut = image()[..IMAGE_LEN - 1].to_vec();
     vec![(image(), 0), (cut, 3), (vec![0x45], 7), (Vec::new(), 7), (vec![0; IMAGE_MAX + 1], 1)]
-}
-
-// The records at the front of so many bytes, as far as they fit.
-fn table(records: &[[u64; 4]], len: usize, fill: u8) -> Vec<u8> {
-    let mut out: Vec<u8> = records.iter().flatten().flat_map(|number| number.to_le_bytes()).collect();
-    out.resize(len, fill);
-    out
 }
 
 pub fn insts(len: usize, fill: u8) -> Vec<u8> {

@@ -23,6 +23,13 @@ pub fn numbers(bytes: &[u8]) -> impl Iterator<Item = u64> + Clone + '_ {
     bytes.chunks_exact(NUMBER_SIZE).map(|number| number_at(number, 0))
 }
 
+/// The records at the front of so many bytes, as far as they fit.
+pub fn table(records: &[[u64; 4]], len: usize, fill: u8) -> Vec<u8> {
+    let mut out: Vec<u8> = records.iter().flatten().flat_map(|number| number.to_le_bytes()).collect();
+    out.resize(len, fill);
+    out
+}
+
 #[derive(Clone, PartialEq)]
 pub struct Machine(pub Vec<u8>);
 
@@ -79,6 +86,10 @@ impl<'a> Program<'a> {
 
     pub fn encode(&self, out: &mut [u8]) -> Encoded {
         sys::encode(self.image, &self.insts, self.count, out)
+    }
+
+    pub fn encoded_size(&self) -> Encoded {
+        sys::encoded_size(self.image, &self.insts, self.count)
     }
 
     /// The first byte of the instruction of that index.

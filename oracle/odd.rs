@@ -135,6 +135,17 @@ impl Odd {
             }
         }
     }
+
+    // The size that an encoding with room enough has.
+    fn sizes(&mut self) {
+        for (insts, count) in pairs(&CUT_INSTS, &COUNTS) {
+            for (image, shift) in pairs(&[known::IMAGE_LEN, 40, 14], &[0, 1, 2, 3, 4, 5, 6, 7]) {
+                let answer = Lengths { image, insts: insts / RECORD_SIZE, labels: 0, count, limit: 0, room: u64::MAX }.encoded();
+                let lent = [known::image()[..image].to_vec(), known::insts(insts, FILL), Vec::new(), Vec::new(), Vec::new()];
+                self.call("size", Call::Size { count }, &lent, answer, &lent, shift);
+            }
+        }
+    }
 }
 
 fn main() {
@@ -144,6 +155,7 @@ fn main() {
     odd.runs();
     odd.no_machines();
     odd.encodes();
+    odd.sizes();
     odd_records::all(&mut odd);
     assert_eq!(odd.offsets.len(), 8 * SLICES, "each slice of a run at each place modulo eight");
     let counts: Vec<String> = odd.answered.iter().map(|((name, number), n)| format!("{name} {number}: {n}")).collect();

@@ -23,7 +23,8 @@ const MANY: u64 = 100_000;
 fn possible() -> Vec<(&'static str, u64)> {
     let loads = [0, 1, 2, 3, 4, 5, 6, 7, 8, 10, 50].map(|n| ("load", n));
     let runs = [0, 1, 50].into_iter().chain(20..=34).map(|n| ("run", n));
-    loads.into_iter().chain(runs).chain([0, 9, 10].map(|n| ("encode", n))).collect()
+    let encodings = [0, 9, 10].map(|n| ("encode", n)).into_iter().chain([0, 9].map(|n| ("size", n)));
+    loads.into_iter().chain(runs).chain(encodings).collect()
 }
 
 // At the end of the block or at its front, up to seven bytes off.
@@ -71,6 +72,7 @@ fn main() {
             Call::Load => "load",
             Call::Run { .. } => "run",
             Call::Encode { .. } => "encode",
+            Call::Size { .. } => "size",
         };
         *answered.entry((name, answer[0])).or_insert(0u64) += 1;
     }

@@ -65,6 +65,7 @@ impl Calls {
         match self.random.below(32) {
             0 => self.load(),
             1..=4 => self.encode(),
+            5 | 6 => self.size(),
             _ => self.run(),
         }
     }
@@ -188,13 +189,24 @@ impl Calls {
         (Call::Run { count, limit }, [image, insts, labels, machine, self.bytes(room)])
     }
 
-    fn encode(&mut self) -> (Call, Lent) {
+    // A program whose table may be damaged: image, instruction table and count.
+    fn written(&mut self) -> ([Vec<u8>; 2], u64) {
         let (mut slices, mut count) = self.loaded();
         if self.random.one_in(2) {
             self.damage(&mut slices, &mut count);
         }
-        let room = self.near(slices[0].len() + 1, 3);
         let [image, insts, _] = slices;
+        ([image, insts], count)
+    }
+
+    fn encode(&mut self) -> (Call, Lent) {
+        let ([image, insts], count) = self.written();
+        let room = self.near(image.len() + 1, 3);
         (Call::Encode { count }, [image, insts, Vec::new(), Vec::new(), self.bytes(room)])
+    }
+
+    fn size(&mut self) -> (Call, Lent) {
+        let ([image, insts], count) = self.written();
+        (Call::Size { count }, [image, insts, Vec::new(), Vec::new(), Vec::new()])
     }
 }

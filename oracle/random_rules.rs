@@ -1,6 +1,6 @@
 // What holds of every call, whatever is lent: which answers there are, and which bytes may have changed.
 use crate::lent::layout::*;
-use crate::lent::{number_at, numbers};
+use crate::lent::{number_at, numbers, sys};
 use crate::stand::{Call, Lent, Stand, INSTS, LABELS, MACHINE, OUT, SLICES};
 
 type Held = Result<(), String>;
@@ -75,7 +75,22 @@ fn encode(lent: &Lent, stand: &Stand, count: u64, [number, size, _]: [u64; 3]) -
     hold(number == 0 || size == 0, "a refusal has no size")?;
     hold(number == 9 || count <= (lent[INSTS].len() / RECORD_SIZE) as u64, "9 for a count past its table")?;
     hold(kept(lent, stand, 0..OUT), "an encoding writes only its output")?;
-    hold(kept_from(lent, stand, OUT, size), "the output is kept behind its size")
+    hold(kept_from(lent, stand, OUT, size), "the output is kept behind its size")?;
+    let room = sys::encoded_size(&lent[0], &lent[INSTS], count);
+    let short = room.number == 0 && (lent[OUT].len() as u64) < room.size;
+    let asked = if short { [10, 0] } else { [room.number, room.size] };
+    hold([number, size] == asked, "an encoding answers what its size does, or 10 where the output is shorter")
+}
+
+fn size(lent: &Lent, stand: &Stand, count: u64, [number, size, _]: [u64; 3]) -> Held {
+    hold(matches!(number, 0 | 9) && (number == 0 || size == 0), "a size, or 9 without one")?;
+    hold(kept(lent, stand, 0..SLICES), "a size writes nothing")?;
+    let encoded = |room: u64| {
+        let sys::Encoded { number, size } = sys::encode(&lent[0], &lent[INSTS], count, &mut vec![0; room as usize]);
+        [number, size]
+    };
+    hold(encoded(size) == [number, size], "an output of that size is long enough, or 9 for both")?;
+    hold(size == 0 || encoded(size - 1) == [10, 0], "10 for one byte less")
 }
 
 pub fn all(call: Call, lent: &Lent, stand: &Stand, answer: [u64; 3]) -> Held {
@@ -83,5 +98,6 @@ pub fn all(call: Call, lent: &Lent, stand: &Stand, answer: [u64; 3]) -> Held {
         Call::Load => load(lent, stand, answer),
         Call::Run { limit, .. } => run(lent, stand, limit, answer),
         Call::Encode { count } => encode(lent, stand, count, answer),
+        Call::Size { count } => size(lent, stand, count, answer),
     }
 }

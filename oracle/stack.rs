@@ -20,13 +20,14 @@ mod c {
         pub fn mm_load();
         pub fn mm_run();
         pub fn mm_encode();
+        pub fn mm_encoded_size();
         pub fn mm_load_labels();
         pub fn mm_run_in_place();
     }
 }
 
-const NAMES: [&str; 5] = ["mm_load", "mm_run", "mm_encode", "mm_load_labels", "mm_run_in_place"];
-const CALLS: [unsafe extern "C" fn(); 5] = [c::mm_load, c::mm_run, c::mm_encode, c::mm_load_labels, c::mm_run_in_place];
+const NAMES: [&str; 6] = ["mm_load", "mm_run", "mm_encode", "mm_encoded_size", "mm_load_labels", "mm_run_in_place"];
+const CALLS: [unsafe extern "C" fn(); 6] = [c::mm_load, c::mm_run, c::mm_encode, c::mm_encoded_size, c::mm_load_labels, c::mm_run_in_place];
 const SLACK: usize = 64;
 // A machine in place, as records.rs has it: its size and its pointer's place, in numbers.
 const IN_PLACE: usize = 17_448 / 8;
@@ -36,7 +37,7 @@ const STEPS: u64 = 400;
 // The most stack of each call so far.
 struct Measured {
     stack: Stack,
-    most: [usize; 5],
+    most: [usize; 6],
 }
 
 // A slice as it crosses: address and length.
@@ -52,14 +53,17 @@ impl Measured {
         answer
     }
 
-    // Load, encoding and run over byte slices.
+    // Load, encoding, its size and run over byte slices.
     fn over_bytes(&mut self, image: &mut [u8]) {
         let (mut insts, mut labels, mut machine) = (vec![0u8; INSTS_SIZE], vec![0u8; LABELS_SIZE], vec![0u8; MACHINE_SIZE]);
         let (mut ran, mut out) = ([0u64; 3], vec![0u8; ENCODED_MAX]);
         let [image, insts, labels, machine, out] = [image, &mut insts, &mut labels, &mut machine, &mut out].map(crossing);
         let [number, count] = self.call(0, &[&image, &insts, &labels, &machine]);
         if number == 0 {
-            assert_eq!(self.call(2, &[&image, &insts, &[count], &out])[0], 0);
+            let encoded = self.call(2, &[&image, &insts, &[count], &out]);
+            assert_eq!(encoded[0], 0);
+            // five arguments, and a 0 for the sixth register, which painted.rs fills too
+            assert_eq!(self.call(3, &[&image, &insts, &[count, 0]]), encoded);
             let ran = ran.as_mut_ptr() as u64;
             self.call(1, &[&[ran], &image, &insts, &labels, &[count], &machine, &[STEPS], &out]);
         }
@@ -72,12 +76,12 @@ impl Measured {
         let (mut loaded, mut ran) = ([0u64; 3], [0u64; 3]);
         let [image, insts, out] = [image, &mut insts, &mut out].map(crossing);
         let labels = crossing(&mut labels);
-        self.call(3, &[&[loaded.as_mut_ptr() as u64], &image, &insts, &labels]);
+        self.call(4, &[&[loaded.as_mut_ptr() as u64], &image, &insts, &labels]);
         let [number, pointer, count] = loaded;
         if number == 0 {
             machine[POINTER] = pointer;
             let machine = machine.as_mut_ptr() as u64;
-            self.call(4, &[&[ran.as_mut_ptr() as u64], &image, &insts, &labels, &[count, machine, STEPS], &out]);
+            self.call(5, &[&[ran.as_mut_ptr() as u64], &image, &insts, &labels, &[count, machine, STEPS], &out]);
         }
     }
 }
@@ -91,7 +95,7 @@ fn documented(page: &str, name: &str) -> Option<usize> {
 fn main() {
     let path = std::env::args().nth(1).expect("usage: oracle-stack PAGE");
     let page = std::fs::read_to_string(path).expect("the page");
-    let mut measured = Measured { stack: Stack::new(), most: [0; 5] };
+    let mut measured = Measured { stack: Stack::new(), most: [0; 6] };
     let mut random = Random(1);
     let drawn: Vec<Vec<u8>> =
         (0..400).map(|i| if i % 4 == 0 { images::damaged(&mut random) } else { images::lively(&mut random) }).collect();

@@ -18,6 +18,7 @@ pub enum Call {
     Load,
     Run { count: u64, limit: u64 },
     Encode { count: u64 },
+    Size { count: u64 },
 }
 
 // Room beside a slice for any place modulo eight, and for lengths a little over what a load wants.
@@ -61,7 +62,7 @@ impl Stand {
         Stand(std::array::from_fn(|_| Slot::new([Block::heap(), Block::heap()])))
     }
 
-    /// Puts the slices in place and makes the call. An encoding isn't lent labels and machine, a load no output.
+    /// Puts the slices in place and makes the call. An encoding isn't lent labels and machine, a load no output, a size none of the three.
     pub fn call(&mut self, call: Call, lent: &Lent, places: [Place; SLICES]) -> Result<[u64; 3], String> {
         for (i, slot) in self.0.iter_mut().enumerate() {
             slot.put(&lent[i], places[i]);
@@ -79,6 +80,10 @@ impl Stand {
             }
             Call::Encode { count } => {
                 let sys::Encoded { number, size } = sys::encode(image, insts, count, out);
+                [number, size, 0]
+            }
+            Call::Size { count } => {
+                let sys::Encoded { number, size } = sys::encoded_size(image, insts, count);
                 [number, size, 0]
             }
         };

@@ -19,6 +19,8 @@
 //! let ran = machine.run(&program, 10_000, &mut dumps);
 //! assert_eq!((ran.ending, ran.steps), (Ending::Halted, 6));
 //! assert_eq!(ran.dumped, [0x7FF2_0000_0000_0006]);
+//! // the room to reserve before the program is written out: HALT was appended
+//! assert_eq!(program.encoded_size()?, image.len() + 1);
 //! # Ok::<(), mm_host::Refusal>(())
 //! ```
 
@@ -68,16 +70,29 @@ impl<'a> Program<'a> {
 
     /// Writes the program out as an image, the appended HALT included, and returns what was written: the front of `out`.
     ///
-    /// A program is at most one byte longer than the image that it was loaded from, by the HALT. It loads again, as the same program, unless that byte makes
-    /// it longer than 16,384 bytes. Both are tested, and not yet proved.
+    /// It takes the length of the image that it was loaded from, and one byte more exactly if HALT was appended. What is written loads again, as the same
+    /// program, unless that byte makes it longer than 16,384 bytes, and writing that gives the same bytes. All this is proved.
     ///
     /// # Errors
     ///
-    /// [`Refusal::NoRoom`] where `out` is shorter than needed. Nothing is written then.
+    /// [`Refusal::NoRoom`] where `out` is shorter than [`encoded_size`](Program::encoded_size). Nothing is written then.
     pub fn encode<'o>(&self, out: &'o mut [u8]) -> Result<&'o mut [u8], Refusal> {
         let encoded = sys::encode(self.image, self.insts, self.count, out);
         accepted(encoded.number)?;
         Ok(&mut out[..encoded.size as usize])
+    }
+
+    /// The room that [`encode`](Program::encode) needs, in bytes, without writing: what it then returns has this length. To reserve room without asking,
+    /// reserve the image's length and one byte more, which is always enough.
+    ///
+    /// # Errors
+    ///
+    /// [`Refusal::IllRecord`] where the instruction table isn't one that a load leaves; [`Refusal::NoRoom`] where no output would have the room. Both are
+    /// proved not to happen while image and table are as the load left them, and safe code can't change them.
+    pub fn encoded_size(&self) -> Result<usize, Refusal> {
+        let encoded = sys::encoded_size(self.image, self.insts, self.count);
+        accepted(encoded.number)?;
+        Ok(encoded.size as usize)
     }
 
     /// The image that it was loaded from.
@@ -139,5 +154,44 @@ impl<'a> Machine<'a> {
         let ran = sys::run(program.image, program.insts, program.labels, program.count, self.bytes, limit, dumps);
         let ending = Ending::try_from(ran.ending).expect("the archive answers an ending");
         Ran { ending, steps: ran.steps, dumped: Words::new(&dumps[..ran.dumped as usize * NUMBER_SIZE]) }
+    }
+}
+
+// The public functions give no program with another table or count than a load's, so this is tested here.
+#[cfg(test)]
+mod tests {
+    use super::Program;
+    use crate::layout::{INSTS_SIZE, INST_MAX, LABELS_SIZE, MACHINE_SIZE, RECORD_SIZE};
+    use crate::Refusal;
+
+    fn assert_ill(program: Program<'_>) {
+        let mut out = [0xEE; 16];
+        assert_eq!(program.encoded_size(), Err(Refusal::IllRecord));
+        assert_eq!(program.encode(&mut out), Err(Refusal::IllRecord));
+        assert_eq!(out, [0xEE; 16]);
+    }
+
+    // The program with one byte of its first record changed.
+    fn assert_ill_with(program: Program<'_>, at: usize, byte: u8) {
+        let mut insts = [0; INSTS_SIZE];
+        insts.copy_from_slice(program.insts);
+        insts[at] = byte;
+        assert_ill(Program { insts: &insts, ..program });
+    }
+
+    #[test]
+    fn an_ill_table_has_no_size() {
+        // LABEL _start; HALT is appended
+        let image = *b"\x15\x06\0\0\0\0\0\0\0_start";
+        let (mut insts, mut labels, mut machine) = ([0; INSTS_SIZE], [0; LABELS_SIZE], [0; MACHINE_SIZE]);
+        let (program, _) = Program::load(&image, &mut insts, &mut labels, &mut machine).expect("it loads");
+        assert_eq!((program.count, program.encoded_size()), (2, Ok(16)));
+        // 277 for the first byte; a cell beside a name; a name that ends behind the image
+        assert_ill_with(program, 1, 1);
+        assert_ill_with(program, 8, 1);
+        assert_ill_with(program, 24, 7);
+        // a byte is missing of the second record; a record is missing of all that the table has room for
+        assert_ill(Program { insts: &program.insts[..2 * RECORD_SIZE - 1], ..program });
+        assert_ill(Program { count: INST_MAX as u64 + 1, ..program });
     }
 }

@@ -40,18 +40,13 @@ impl Program {
         self.fresh.clone()
     }
 
-    /// The program written out as an image, the HALT that the load appended included. It loads again, as the same program (that is tested, and not
-    /// yet proved), but for one case: where the image had 16,384 bytes and a HALT was appended, a load refuses it with [`Refusal::ImageTooLong`].
-    ///
-    /// # Panics
-    ///
-    /// Where the archive couldn't write the program out in its image's length and one byte. It can: each instruction is written in as many bytes as the image
-    /// has for it, and an appended HALT in one. That is tested, and a request will prove it. [`encode_into`](Program::encode_into) has a refusal for it.
+    /// The program written out as an image, the HALT that the load appended included. It loads again, as the same program, and is then written out as the same
+    /// bytes, but for one case: where the image had 16,384 bytes and a HALT was appended, a load refuses it with [`Refusal::ImageTooLong`]. That is proved.
     #[must_use]
     pub fn encode(&self) -> Vec<u8> {
-        let mut out = vec![0; self.image.len() + 1];
-        let size = self.encode_into(&mut out).expect("a program is written out in its image's length and one byte").len();
-        out.truncate(size);
+        let mut out = vec![0; self.encoded_size()];
+        // proved: what the call for the size answers is what an encoding needs
+        self.encode_into(&mut out).expect("the size asked for is enough");
         out
     }
 
@@ -59,10 +54,17 @@ impl Program {
     ///
     /// # Errors
     ///
-    /// [`Refusal::NoRoom`] where `out` is shorter than needed. Nothing is written then. The image's length and one byte are enough; that is tested, and not
-    /// yet proved.
+    /// [`Refusal::NoRoom`] where `out` is shorter than [`encoded_size`](Program::encoded_size). Nothing is written then.
     pub fn encode_into<'o>(&self, out: &'o mut [u8]) -> Result<&'o mut [u8], Refusal> {
         self.as_lent().encode(out)
+    }
+
+    /// The length of what [`encode`](Program::encode) gives, in bytes, without writing: the image's length, and one byte more exactly if HALT was appended.
+    /// That is proved; so the image's length and one byte more, reserved without asking, are always enough.
+    #[must_use]
+    pub fn encoded_size(&self) -> usize {
+        // proved of image, table and count as a load leaves them, and nothing changes them here
+        self.as_lent().encoded_size().expect("a loaded program has a size")
     }
 
     /// The image that it was loaded from.

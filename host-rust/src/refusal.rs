@@ -6,9 +6,9 @@ use core::error::Error;
 use core::fmt;
 
 numbered! {
-    /// Why a load or an encoding was refused. Nothing was written then.
+    /// Why a load, an encoding or the question for its size was refused. Nothing was written then.
     ///
-    /// A load gives 1 to 8 and 10, an encoding 9 and 10.
+    /// A load gives 1 to 8 and 10, an encoding 9 and 10, the question for its size 9 (and 10 where no output would have the room).
     Refusal {
         ImageTooLong = 1, "the image is longer than 16,384 bytes";
         UndefinedByte = 2, "an instruction starts with a byte that stands for no instruction";

@@ -20,7 +20,7 @@ pub struct Ran {
     pub dumped: u64,
 }
 
-/// What `mm_encode` answers.
+/// What `mm_encode` and `mm_encoded_size` answer.
 #[repr(C)]
 #[derive(Clone, Copy, Debug, PartialEq, Eq)]
 pub struct Encoded {
@@ -67,6 +67,8 @@ mod c {
             out: *mut u8,
             out_len: usize,
         ) -> Encoded;
+
+        pub fn mm_encoded_size(image: *const u8, image_len: usize, insts: *const u8, insts_len: usize, count: u64) -> Encoded;
     }
 }
 
@@ -112,6 +114,12 @@ pub fn run(image: &[u8], insts: &[u8], labels: &[u8], count: u64, machine: &mut 
 pub fn encode(image: &[u8], insts: &[u8], count: u64, out: &mut [u8]) -> Encoded {
     // SAFETY: see the module.
     unsafe { c::mm_encode(image.as_ptr(), image.len(), insts.as_ptr(), insts.len(), count, out.as_mut_ptr(), out.len()) }
+}
+
+/// The size that `encode` needs for the same instructions and then answers, without writing.
+pub fn encoded_size(image: &[u8], insts: &[u8], count: u64) -> Encoded {
+    // SAFETY: see the module.
+    unsafe { c::mm_encoded_size(image.as_ptr(), image.len(), insts.as_ptr(), insts.len(), count) }
 }
 
 /// The bytes of a buffer of cells. A cell lies there lowest byte first, as the archive writes it: this crate is for x86-64 Linux only.

@@ -123,16 +123,35 @@ fn bytes_that_are_no_machine() {
     assert_eq!(Machine::from_bytes(&mut halted).map(|machine| machine.halted()), Ok(true));
 }
 
+// Image and instruction table at every address; the table is all that the call is lent beside the image.
+#[test]
+fn the_size_of_an_encoding_at_any_address() {
+    let (mut insts, mut labels, mut machine) = (vec![0; INSTS_SIZE], vec![0; LABELS_SIZE], machine_bytes());
+    let bytes = three_dumps();
+    let mut sizes = placed(bytes.len(), 0xEE, |image| {
+        image.copy_from_slice(&bytes);
+        let (program, _) = Program::load(image, &mut insts, &mut labels, &mut machine).expect("it loads");
+        program.encoded_size()
+    });
+    sizes.extend(placed(INSTS_SIZE + 31, 0xEE, |insts| {
+        let (program, _) = Program::load(&bytes, insts, &mut labels, &mut machine).expect("it loads");
+        program.encoded_size()
+    }));
+    assert_eq!(sizes, vec![Ok(bytes.len() + 1); 2 * 16]);
+}
+
 #[test]
 fn an_encoding_fills_the_front() {
     let (mut insts, mut labels, mut machine) = (vec![0; INSTS_SIZE], vec![0; LABELS_SIZE], machine_bytes());
     let image = image(&[vec![27, 1]]);
     let (program, _) = Program::load(&image, &mut insts, &mut labels, &mut machine).expect("it loads");
     let want = [&image[..15], &[46, 1, 69]].concat();
+    assert_eq!(program.encoded_size(), Ok(want.len()));
     placed(want.len() + 3, 0xEE, |out| {
         assert_eq!(program.encode(out), Ok(want.clone().as_mut_slice()));
         assert_eq!(out[want.len()..], [0xEE; 3]);
     });
+    placed(want.len(), 0xEE, |out| assert_eq!(program.encode(out), Ok(want.clone().as_mut_slice())));
     placed(want.len() - 1, 0xEE, |out| {
         assert_eq!(program.encode(out), Err(Refusal::NoRoom));
         assert!(out.iter().all(|&byte| byte == 0xEE));

@@ -152,18 +152,70 @@ fn what_is_written_out_loads_again() {
     assert_eq!(room[out.len()..], [9, 9]);
 }
 
+// The size of the program, which is what an encoding needs: as much is enough, and with a byte less nothing is written.
+fn size_needed(image: &[u8]) -> usize {
+    let program = load(image.to_vec());
+    let (size, out) = (program.encoded_size(), program.encode());
+    assert_eq!(out.len(), size);
+    let mut room = vec![9; size];
+    assert_eq!(program.encode_into(&mut room[..size - 1]), Err(Refusal::NoRoom));
+    assert_eq!(room, vec![9; size]);
+    assert_eq!(program.encode_into(&mut room).map(|written| &*written), Ok(out.as_slice()));
+    size
+}
+
+#[test]
+fn the_size_is_the_images_and_a_byte_for_the_appended_halt() {
+    for ends_with_halt in [vec![vec![69]], vec![vec![0, 69, 69]], vec![push(int(5)), vec![27, 1, 69]]] {
+        let image = image(&ends_with_halt);
+        assert_eq!(size_needed(&image), image.len());
+    }
+    for ends_otherwise in [vec![], vec![vec![0]], vec![vec![69, 0]], vec![push(int(5)), vec![27, 1]]] {
+        let image = image(&ends_otherwise);
+        assert_eq!(size_needed(&image), image.len() + 1);
+    }
+    assert_eq!(size_needed(&three_dumps()), three_dumps().len() + 1);
+}
+
+// A last byte of 69 is no HALT where it belongs to an operand: a name, a cell, a number, a stream.
+#[test]
+fn halt_is_appended_behind_an_operand_that_ends_with_69() {
+    let number = [&[10], (69u64 << 56).to_le_bytes().as_slice()].concat();
+    for last in [named(21, "E"), named(20, "_starE"), push(69 << 56), number, vec![27, 69], vec![46, 69]] {
+        let image = image(&[last]);
+        let program = load(image.clone());
+        assert_eq!((image.last(), program.count()), (Some(&69), 3));
+        assert_eq!(size_needed(&image), image.len() + 1);
+        assert_eq!(program.encode().last(), Some(&69));
+        // with the HALT written it stays as it is
+        assert_eq!(size_needed(&program.encode()), image.len() + 1);
+    }
+}
+
+// Bits 48 to 62 of a name's length are ignored, and bit 63 of a length 0: they are written as 0, in as many bytes.
+#[test]
+fn ignored_bits_of_a_length_are_written_as_zero() {
+    let plain = image(&[named(21, ""), vec![69]]);
+    let mut odd = plain.clone();
+    odd[7..9].copy_from_slice(&[0xFF, 0x7F]);
+    odd[15 + 7..15 + 9].copy_from_slice(&[0xFF, 0xFF]);
+    assert_eq!(size_needed(&odd), plain.len());
+    assert_eq!(load(odd).encode(), plain);
+}
+
 // An image as long as a load takes, with no HALT at its end: the appended one makes it too long to be loaded again.
 #[test]
 fn the_longest_image_written_out_is_too_long() {
     let longest = image(&[push(int(5)).repeat(1_818), vec![0; 7]]);
     let program = load(longest.clone());
     assert_eq!((longest.len(), program.count()), (16_384, 1 + 1_818 + 7 + 1));
+    assert_eq!(size_needed(&longest), 16_385);
     let out = program.encode();
     assert_eq!((out.len(), &out[..16_384], out[16_384]), (16_385, longest.as_slice(), 69));
     assert_eq!(Program::load(out), Err(Refusal::ImageTooLong));
     // with a HALT of its own it is written out as it was
     let halted = [&longest[..16_383], &[69]].concat();
-    assert_eq!(load(halted.clone()).encode(), halted);
+    assert_eq!((size_needed(&halted), load(halted.clone()).encode()), (16_384, halted.clone()));
     assert_eq!(load(load(halted.clone()).encode()), load(halted));
 }
 

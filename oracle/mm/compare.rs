@@ -1,5 +1,5 @@
-// One image in both machines: after the load the program, its re-encoding, that loaded again, and the pointer; after every step the whole
-// state. Where document 01's domain ends, ours is held to what the documents say there.
+// One image in both machines: after the load the program, its re-encoding, that loaded again and written out again, and the pointer; after
+// every step the whole state. Where document 01's domain ends, ours is held to what the documents say there.
 use crate::edge::Edge;
 use crate::images::{self, Random};
 use crate::lent::layout::{FLAGS_AT, IMAGE_MAX, NUMBER_SIZE, POINTER_AT, RECORD_SIZE};
@@ -7,6 +7,7 @@ use crate::lent::sys::Ran;
 use crate::lent::{number_at, Machine, Program};
 use crate::report::Report;
 use crate::trap::number;
+use crate::walk::Walk;
 use mm::{Mm, NaNBox, Natives};
 use std::fmt;
 use std::panic::{catch_unwind, AssertUnwindSafe};
@@ -299,14 +300,16 @@ fn load<'a>(image: &'a Vec<u8>, report: &mut Report) -> Result<(Program<'a>, Mac
     }
 }
 
-// What was written out loads again as the same program, or is one byte too long, by the HALT.
+// What was written out loads again as the same program, which is written out as the same bytes, or is one byte too long, by the HALT.
 fn loads_again(ours: &Program, machine: &Machine, written: &[u8], report: &mut Report) -> Option<String> {
     let records = ours.count as usize * RECORD_SIZE;
     match Program::load(written) {
         Ok((again, fresh)) => {
             report.again += 1;
+            let mut out = vec![0; written.len()];
+            let bytes = again.encode(&mut out).number == 0 && out == written;
             let tables = again.insts[..records] == ours.insts[..records] && again.labels == ours.labels;
-            let same = again.count == ours.count && tables && fresh == *machine;
+            let same = again.count == ours.count && tables && fresh == *machine && bytes;
             (!same).then(|| "the program written out and loaded again".to_string())
         }
         Err(1) if written.len() == IMAGE_MAX + 1 && ours.image.len() == IMAGE_MAX => {
@@ -315,6 +318,20 @@ fn loads_again(ours: &Program, machine: &Machine, written: &[u8], report: &mut R
         }
         Err(n) => Some(format!("the program written out, of {} bytes, is refused with {n}", written.len())),
     }
+}
+
+// What the Rust writes out is what walk.rs expects, and the size is known beforehand.
+fn as_expected(ours: &Program, written: &[u8], report: &mut Report) -> Option<String> {
+    let Ok(walk) = catch_unwind(|| Walk::of(ours.image)) else {
+        return Some("walk.rs can't read it".to_string());
+    };
+    report.at_limits(ours.image.len(), walk.count(), walk.is_open());
+    let size = ours.encoded_size();
+    if walk.written() != written {
+        return Some(format!("the Rust writes {} bytes out, and walk.rs expects others, {}", written.len(), walk.written().len()));
+    }
+    let same = (size.number, size.size) == (0, written.len() as u64);
+    (!same).then(|| format!("the Rust writes {} bytes out, our size is {size:?}", written.len()))
 }
 
 // What both have after the load: the instructions, written out, and the machine.
@@ -329,7 +346,7 @@ fn after_load(ours: &Program, machine: &Machine, rust: &Mm, program: &mm::Progra
         return Some(format!("instructions: Rust {}, ours {}", program.len(), ours.count));
     }
     let loaded = first_difference(rust, machine).map(|what| format!("after the load: {what}"));
-    loaded.or_else(|| loads_again(ours, machine, &written, report))
+    loaded.or_else(|| as_expected(ours, &written, report)).or_else(|| loads_again(ours, machine, &written, report))
 }
 
 fn judged(image: &Vec<u8>, steps: u64, random: &mut Random, report: &mut Report) -> Verdict {

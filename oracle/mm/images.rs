@@ -380,6 +380,14 @@ pub fn typed(k: u64) -> Vec<u8> {
     image
 }
 
+// `_start`, a name by which the image has that length, and what is behind it.
+fn long(len: usize, op: u8, end: &[u8]) -> Vec<u8> {
+    let mut image = started();
+    named(op, &vec![b'x'; len - 15 - 9 - end.len()], &mut image);
+    image.extend_from_slice(end);
+    image
+}
+
 // At document 01's limits, and just past them where the Rust has no limit.
 pub fn boundary() -> Vec<Vec<u8>> {
     let with = |f: &dyn Fn(&mut Vec<u8>)| {
@@ -390,7 +398,6 @@ pub fn boundary() -> Vec<Vec<u8>> {
     let many = |n: usize, bytes: &[u8]| with(&|out: &mut Vec<u8>| (0..n).for_each(|_| out.extend_from_slice(bytes)));
     let mut label = Vec::new();
     named(21, b"", &mut label);
-    let longest = 16_384 - 15 - 9;
     let mut call = started();
     named(28, b"_start", &mut call);
     vec![
@@ -401,8 +408,8 @@ pub fn boundary() -> Vec<Vec<u8>> {
         many(512, &label),
         many(16_384 - 15, &[0]),
         many(16_385 - 15, &[0]),
-        with(&|out: &mut Vec<u8>| named(21, &vec![b'x'; longest], out)),
-        with(&|out: &mut Vec<u8>| named(20, &vec![b'x'; longest], out)),
+        long(16_384, 21, &[]),
+        long(16_384, 20, &[]),
         with(&|out: &mut Vec<u8>| {
             named(21, b"", out);
             named(20, b"", out)
@@ -413,6 +420,11 @@ pub fn boundary() -> Vec<Vec<u8>> {
             out.extend_from_slice(&[5, 22, 22])
         }),
         call,
+        long(16_383, 30, &[]),
+        long(16_383, 30, &[69]),
+        long(16_384, 30, &[27, 1]),
+        long(16_384, 30, &[69]),
+        [many(4_094, &[0]), vec![69]].concat(),
     ]
 }
 

@@ -7,13 +7,22 @@ mod images;
 mod lent;
 mod output;
 mod report;
+#[path = "../rewritten_images.rs"]
+mod rewritten_images;
 mod shrink;
 mod trap;
+// rewritten.rs uses more of it
+#[allow(dead_code)]
+#[path = "../walk.rs"]
+mod walk;
 
 use compare::{compare, Verdict, BOUNDARY_STEPS, STEPS};
 use images::Random;
 use report::Report;
 use std::io::Write;
+
+// How many images are of those that rewritten.rs writes out.
+const REWRITTEN: u64 = 2_000;
 
 fn hex(bytes: &[u8]) -> String {
     bytes.iter().map(|b| format!("{b:02X} ")).collect()
@@ -21,7 +30,7 @@ fn hex(bytes: &[u8]) -> String {
 
 fn main() {
     let number = |i: usize, default: u64| std::env::args().nth(i).map_or(default, |a| a.parse().expect("a number"));
-    let (seed, wanted) = (number(1, 1), number(2, 138_000));
+    let (seed, wanted) = (number(1, 1), number(2, 140_000));
     let mut out = output::third();
     std::panic::set_hook(Box::new(|_| {}));
     let mut random = Random(seed);
@@ -33,6 +42,7 @@ fn main() {
             None => boundary[at as usize].clone(),
             Some(k) if k < images::SHORT => images::short(k),
             Some(k) if k < images::SHORT + images::TYPED => images::typed(k - images::SHORT),
+            Some(k) if k < images::SHORT + images::TYPED + REWRITTEN => rewritten_images::image(&mut random),
             Some(_) if random.one_in(4) => images::damaged(&mut random),
             Some(_) => images::lively(&mut random),
         };

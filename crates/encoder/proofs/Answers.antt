@@ -9,11 +9,12 @@ use lib.ListN.{length, take}
 use borrow.Author.Tests.{leb-true, le-leb, lt-leb}
 use Rattle.inst.specs.declared.Inst.{Inst}
 use Rattle.inst.proofs.Laws.{never, and-left, and-right}
-use Rattle.machine.specs.Encode.{allWellFormed, bytesOfAll, unencoded, encoded, encode}
+use Rattle.machine.specs.Encode.{allWellFormed, bytesOfAll, unencoded, encoded, inRoom, sizeOf}
 use Rattle.encoder.specs.declared.Room.{Room}
-use Rattle.encoder.specs.Encoder.{sized, Fits}
+use Rattle.encoder.specs.Encoder.{Fits}
 
-other : {A : Type 0} (m n : ℕ) → unencoded m ≡ encoded n → A
+-- a number is no size
+pub other : {A : Type 0} (m n : ℕ) → unencoded m ≡ encoded n → A
 other m n e = let z : _≡_ {A = ℕ} 0 1 = cc in absurd (omega arith)
 
 -- a length that is 0 where a test fails
@@ -27,20 +28,20 @@ well-len false n k e z = absurd (z e)
 
 -- by the room
 module _ (n room : ℕ) where
-  pub sized-fits : n ≤ room → sized n room ≡ encoded n
-  unfolding sized
-  sized-fits h = rw (le-leb n room h)
+  in-room : n ≤ room → inRoom room (encoded n) ≡ encoded n
+  unfolding inRoom
+  in-room h = rw (le-leb n room h)
 
-  pub sized-long : room < n → sized n room ≡ unencoded 10
-  unfolding sized
-  sized-long h = rw (lt-leb n room h)
+  pub past-room : room < n → inRoom room (encoded n) ≡ unencoded 10
+  unfolding inRoom
+  past-room h = rw (lt-leb n room h)
 
   fits-by : (b : Bool) (m : ℕ) → leb n room ≡ b → encoded m ≡ cond b (encoded n) (unencoded 10) → (m ≡ n) × (n ≤ room)
   fits-by true m e h = (cc, leb-true n room e)
   fits-by false m e h = other 10 m (cc)
 
-  pub fits-back : (m : ℕ) → encoded m ≡ sized n room → (m ≡ n) × (n ≤ room)
-  unfolding sized
+  fits-back : (m : ℕ) → encoded m ≡ inRoom room (encoded n) → (m ≡ n) × (n ≤ room)
+  unfolding inRoom
   fits-back m h = fits-by (leb n room) m refl h
 
 -- the room behind `len` bytes more
@@ -58,42 +59,42 @@ module _ (room n len : ℕ) (r : Room) (f : Fits room n r) where
       record { inside = omega arith; rest = λ e. (let p = f .rest e in omega arith); past = λ e. (let p = f .past e in omega arith) }
 
 -- what is left tells how much was taken
-pub room-fits : (room n : ℕ) (r : Room) → Fits room n r → r .short ≡ false → encoded (room - r .left) ≡ sized n room
+pub room-fits : (room n : ℕ) (r : Room) → Fits room n r → r .short ≡ false → encoded (room - r .left) ≡ inRoom room (encoded n)
 room-fits room n r f e =
     let p = f .rest e in
     let q : room - r .left ≡ n = omega arith in
-    rw q (sym (sized-fits n room (omega arith)))
+    rw q (sym (in-room n room (omega arith)))
 
--- 9, then by the room
-module _ (image : List ℕ) (is : List Inst) (count : ℕ) (out : List ℕ) where
+-- 9, or the size
+module _ (image : List ℕ) (is : List Inst) (count : ℕ) where
   abbrev pub size : ℕ
   size = length (bytesOfAll image (take count is))
 
-  pub past : length is < count → encode image is count out ≡ unencoded 9
-  unfolding encode
+  pub past : length is < count → sizeOf image is count ≡ unencoded 9
+  unfolding sizeOf
   past h = rw (lt-leb count (length is) h)
 
-  pub ill : allWellFormed image (take count is) ≡ false → encode image is count out ≡ unencoded 9
-  unfolding encode
+  pub ill : allWellFormed image (take count is) ≡ false → sizeOf image is count ≡ unencoded 9
+  unfolding sizeOf
   ill h = rw (h, and-false)
 
-  pub whole : count ≤ length is → allWellFormed image (take count is) ≡ true → encode image is count out ≡ sized size (length out)
-  unfolding encode sized
+  pub whole : count ≤ length is → allWellFormed image (take count is) ≡ true → sizeOf image is count ≡ encoded size
+  unfolding sizeOf
   whole h w = rw (le-leb count (length is) h, w)
 
   -- what is written may be written
-  pub record Accepted : Type 0 where
+  pub record Accepted (room : ℕ) : Type 0 where
     pub within : count ≤ length is
     pub well : allWellFormed image (take count is) ≡ true
-    pub fits : size ≤ length out
+    pub fits : size ≤ room
 
-  accepted-by : (b : Bool) (n : ℕ) → (leb count (length is) && allWellFormed image (take count is)) ≡ b
-      → encoded n ≡ cond b (cond (leb size (length out)) (encoded size) (unencoded 10)) (unencoded 9) → Accepted
-  unfolding sized
-  accepted-by true n e h =
-      record { within = leb-true _ _ (and-left _ _ e); well = and-right (leb count (length is)) _ e; fits = fits-back size (length out) n h .1 }
-  accepted-by false n e h = other 9 n (cc)
+  accepted-by : (room : ℕ) (b : Bool) (n : ℕ) → (leb count (length is) && allWellFormed image (take count is)) ≡ b
+      → encoded n ≡ inRoom room (cond b (encoded size) (unencoded 9)) → Accepted room
+  unfolding inRoom
+  accepted-by room true n e h =
+      record { within = leb-true _ _ (and-left _ _ e); well = and-right (leb count (length is)) _ e; fits = fits-back size room n h .1 }
+  accepted-by room false n e h = other 9 n (cc)
 
-  pub accepted : (n : ℕ) → encoded n ≡ encode image is count out → Accepted
-  unfolding encode
-  accepted n h = accepted-by (leb count (length is) && allWellFormed image (take count is)) n refl h
+  pub accepted : (room n : ℕ) → encoded n ≡ inRoom room (sizeOf image is count) → Accepted room
+  unfolding sizeOf
+  accepted room n h = accepted-by room (leb count (length is) && allWellFormed image (take count is)) n refl h

@@ -1,6 +1,6 @@
 -- The records that are left, their sizes and their bytes. Assumes nothing.
 use Prim.Native.Nat.{ℕ, _+_, _<_, _≤_}
-use mathlib.Core.Path.{_≡_, refl, sym, _∙_}
+use mathlib.Core.Path.{_≡_, refl, _∙_}
 use mathlib.Core.Bool.{true, false}
 use mathlib.Core.List.{List, [], _∷_}
 use native.Mathlib.Nat.{add-zero}
@@ -12,10 +12,10 @@ use Rattle.inst.specs.declared.Inst.{Inst}
 use Rattle.inst.specs.Records.{wellFormed}
 use Rattle.inst.proofs.Laws.{never, and-left, and-right, sets-more}
 use Rattle.inst_encode.specs.Encode.{asBytes}
-use Rattle.machine.specs.Encode.{allWellFormed, bytesOfAll, encode, unencoded}
+use Rattle.machine.specs.Encode.{allWellFormed, bytesOfAll, unencoded, encoded, inRoom, sizeOf}
 use Rattle.encoder.specs.declared.Room.{Room}
 use Rattle.encoder.specs.declared.Written.{Written}
-use Rattle.encoder.specs.Encoder.{means, sized, Fits}
+use Rattle.encoder.specs.Encoder.{means, Fits}
 use Rattle.encoder.proofs.Answers.{ill, whole}
 
 -- what is left of the first `count` records from record i on
@@ -51,9 +51,9 @@ module _ (image : List ℕ) (is : List Inst) (count room : ℕ) where
 
   module _ (r : Room) (i : ℕ) (s : Checked image is count room r i) where
     -- the next record is ill
-    pub checked-ill : (x : Inst) (out : List ℕ) → i < count → IsAt is i x → wellFormed image x ≡ false → encode image is count out ≡ unencoded 9
+    pub checked-ill : (x : Inst) → i < count → IsAt is i x → wellFormed image x ≡ false → sizeOf image is count ≡ unencoded 9
     unfolding allWellFormed
-    checked-ill x out h e w = ill image is count out (s .well ∙ rw (left-next is count (s .within) i x h e, w))
+    checked-ill x h e w = ill image is count (s .well ∙ rw (left-next is count (s .within) i x h e, w))
 
     -- or its size is added
     pub checked-next : (x : Inst) (len : ℕ) (r′ : Room) → i < count → IsAt is i x → wellFormed image x ≡ true → len ≡ length (asBytes image x)
@@ -71,12 +71,12 @@ module _ (image : List ℕ) (is : List Inst) (count room : ℕ) where
           total = omega arith;
         }
 
-    pub checked-all : (w : Written) (out : List ℕ) → length out ≡ room → count ≤ i → ((n : ℕ) → Fits room n r → means w ≡ sized n room) → means w ≡ encode image is count out
+    pub checked-all : (w : Written) → count ≤ i → ((n : ℕ) → Fits room n r → means w ≡ inRoom room (encoded n)) → means w ≡ inRoom room (sizeOf image is count)
     unfolding allWellFormed bytesOfAll
-    checked-all w out e h f =
+    checked-all w h f =
         let none = left-none is count (s .within) i h in
         let t = rw (none, add-zero) at (s .total) in
-        f (s .bytes) (s .fits) ∙ rw (t, ← e) (sym (whole image is count out (s .within) (s .well ∙ rw none)))
+        f (s .bytes) (s .fits) ∙ rw (whole image is count (s .within) (s .well ∙ rw none), t)
 
 -- the second pass at record i: storing what is left from `at` on gives the whole
 pub record Stored (image : List ℕ) (is : List Inst) (count : ℕ) (out₀ out : List ℕ) (at i : ℕ) : Type 0 where

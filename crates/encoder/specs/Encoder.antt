@@ -1,8 +1,7 @@
 -- The code's answers, by the encoder of document 01.
 use Prim.Native.Nat.{ℕ, _+_, _≤_, _<_}
 use mathlib.Core.Path.{_≡_}
-use mathlib.Core.Bool.{true, false, cond}
-use lib.Dec.{leb}
+use mathlib.Core.Bool.{true, false}
 use Rattle.machine.specs.Encode.{Encoded, unencoded, encoded}
 use Rattle.encoder.specs.declared.Room.{Room}
 use Rattle.encoder.specs.declared.Written.{Written}
@@ -12,10 +11,6 @@ use Rattle.encoder.specs.declared.Written.the-variants.{Refused, Bytes}
 unfoldable pub means : Written → Encoded
 means (Refused n) = unencoded n
 means (Bytes n) = encoded n
-
--- the answer for well-formed records of n bytes, by the room: 10 where it is too short
-unfoldable pub sized : ℕ → ℕ → Encoded
-sized n room = cond (leb n room) (encoded n) (unencoded 10)
 
 -- what is left of a room behind records of n bytes, or that they passed it
 pub record Fits (room n : ℕ) (r : Room) : Type 0 where

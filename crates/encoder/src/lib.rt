@@ -1,14 +1,13 @@
-// The encoder (to_binary of mm): a table of records written out, straight into the output.
+// The encoder (to_binary of mm): a table of records written out, straight into the output; and the room that it takes.
 ghost use mathlib.Core.Path.{_≡_};
 ghost use mathlib.Core.Bool.{true};
-ghost use mathlib.Core.List.{List};
 ghost use Prim.Native.Nat.{ℕ, _+_, _≤_};
 ghost use lib.ListN.{length, take};
 ghost use lib.Seq.{sets};
 ghost use Rattle.inst.specs.Forms.{formTable};
-ghost use Rattle.machine.specs.Encode.{allWellFormed, bytesOfAll, encode, outputAfter};
+ghost use Rattle.machine.specs.Encode.{encoded, allWellFormed, bytesOfAll, inRoom, sizeOf, encode, encodedSize, outputAfter};
 ghost use Rattle.tables.specs.Tables.{instsOf};
-ghost use Rattle.encoder.specs.Encoder.{means, sized, Fits};
+ghost use Rattle.encoder.specs.Encoder.{means, Fits};
 use inst::TABLE_SIZE;
 use inst::form_table;
 use inst_encode::checked_len;
@@ -16,13 +15,13 @@ use inst_encode::put_inst;
 use tables::RECORD;
 use tables::inst_at;
 
-// What to_binary answers: a number, or how many bytes were written.
+// The answer: a number, or how many bytes are written.
 pub enum Written {
     Refused(u8),
     Bytes(usize),
 }
 
-// What is left of the output's room, and whether records passed it.
+// What is left of a room, and whether records passed it.
 struct Room {
     left: usize,
     short: bool,
@@ -47,7 +46,7 @@ fn taken(r: Room, len: usize) -> Room
 // The answer for what is left of a room.
 fn answer(room: usize, r: Room) -> Written
     requires { ⌜ r .left ≤ room ⌝ }
-    ensures { λ w. ⌜ ((n : ℕ) → Fits room n r → means w ≡ sized n room) ⌝ }
+    ensures { λ w. ⌜ ((n : ℕ) → Fits room n r → means w ≡ inRoom room (encoded n)) ⌝ }
 {
     if r.short {
         return Written::Refused(10);
@@ -58,7 +57,7 @@ fn answer(room: usize, r: Room) -> Written
 // The answer, without a write. Every record is tested, also behind those that fill the room, since 9 comes before 10.
 fn check(forms: &[u8; TABLE_SIZE], image: &[u8], insts: &[u8], count: usize, room: usize) -> Written
     requires { ⌜ now forms ≡ formTable ⌝ }
-    ensures { λ r. ⌜ ((out : List ℕ) → length out ≡ room → means r ≡ encode (now (image .entry)) (instsOf (now (insts .entry))) count out) ⌝ }
+    ensures { λ r. ⌜ means r ≡ inRoom room (sizeOf (now (image .entry)) (instsOf (now (insts .entry))) count) ⌝ }
 {
     if count > insts.len() / RECORD {
         return Written::Refused(9);
@@ -109,4 +108,13 @@ pub fn to_binary(image: &[u8], insts: &[u8], count: usize, out: &mut [u8]) -> Wr
     };
     write(&forms, image, insts, count, out);
     Written::Bytes(size)
+}
+
+// The room that the same call of to_binary needs, without writing: the size that it then answers, or 9; 10 where no output has the
+// room.
+pub fn encoded_size(image: &[u8], insts: &[u8], count: usize) -> Written
+    ensures { λ r. ⌜ means r ≡ encodedSize (now (image .entry)) (instsOf (now (insts .entry))) count ⌝ }
+{
+    let forms = form_table();
+    check(&forms, image, insts, count, usize::MAX)
 }

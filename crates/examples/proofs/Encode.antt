@@ -1,4 +1,4 @@
--- The encoder's definition, computed: what it writes, 10, and 9 before 10. Assumes nothing.
+-- The encoder's definition, computed: what it writes, 10, 9 before 10, and the room asked for. Assumes nothing.
 use Prim.Native.Nat.{ℕ}
 use mathlib.Core.Path.{_≡_, refl}
 use mathlib.Core.List.{List, [], _∷_}
@@ -7,7 +7,7 @@ use Rattle.inst.specs.declared.Inst.{Inst}
 use Rattle.inst.specs.Forms.{formOf, hasNone, hasEight, hasOne, hasName}
 use Rattle.inst.specs.Records.{plain, named, nameOk, nameIn, fits, wellFormed}
 use Rattle.inst_encode.specs.Encode.{bytesOf, operandBytes, asBytes}
-use Rattle.machine.specs.Encode.{allWellFormed, bytesOfAll, unencoded, encoded, encode, outputAfter}
+use Rattle.machine.specs.Encode.{allWellFormed, bytesOfAll, unencoded, encoded, sizeOf, inRoom, encode, encodedSize, outputAfter}
 
 -- LABEL f, FDMP 2, IDMP 1, HALT; the name is the image's one byte
 insts : List Inst
@@ -24,8 +24,11 @@ record Computed : Type 0 where
   -- an ill record, or a count past the table, though the output is too short as well
   ill : encode image insts 5 [] ≡ unencoded 9
   past : encode image insts 6 [] ≡ unencoded 9
+  -- the room, asked for
+  asked : encodedSize image insts 4 ≡ encoded 15
+  asked-ill : encodedSize image insts 5 ≡ unencoded 9
   untouched : outputAfter (unencoded 9) image insts 5 (7 ∷ []) ≡ 7 ∷ []
 
 computed : Computed
-unfolding insts image formOf hasNone hasEight hasOne hasName nameOk nameIn fits wellFormed bytesOf operandBytes asBytes allWellFormed bytesOfAll encode outputAfter
-computed = record { written = refl; size = refl; short = refl; ill = refl; past = refl; untouched = refl }
+unfolding insts image formOf hasNone hasEight hasOne hasName nameOk nameIn fits wellFormed bytesOf operandBytes asBytes allWellFormed bytesOfAll sizeOf inRoom encode encodedSize outputAfter
+computed = record { written = refl; size = refl; short = refl; ill = refl; past = refl; asked = refl; asked-ill = refl; untouched = refl }

@@ -4,4 +4,5 @@ mod Labels
 mod Ill
 mod PlainNaN
 mod Encode
+mod Rewritten
 mod Sample

@@ -1,1 +1,1 @@
-// Examples computed from the definitions of document 01 and of request a of document 02, in proofs/. No code.
+// Examples computed from the definitions of document 01 and of requests a and b of document 02, in proofs/. No code.

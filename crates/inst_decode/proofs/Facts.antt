@@ -32,11 +32,11 @@ fdmp-form : formOf 46 ≡ one
 unfolding formOf hasNone hasEight hasOne hasName
 fdmp-form = refl
 
-read-as : (op : ℕ) → formOf op ≡ one → (formOf (typeOf op) ≡ one) × (eqb (typeOf op) 27 ≡ false)
+pub read-as : (op : ℕ) → formOf op ≡ one → (formOf (typeOf op) ≡ one) × (eqb (typeOf op) 27 ≡ false)
 unfolding typeOf
 read-as op e = by-test (λ t. (formOf t ≡ one) × (eqb t 27 ≡ false)) (eqb op 27) 46 op (λ _. (fdmp-form, refl)) (λ k. (e, k))
 
-not-one : (op : ℕ) (f : Form) → formOf op ≡ f → (letterOf f ≡ 49 → ⊥) → eqb op 27 ≡ false
+pub not-one : (op : ℕ) (f : Form) → formOf op ≡ f → (letterOf f ≡ 49 → ⊥) → eqb op 27 ≡ false
 unfolding formOf hasNone hasEight hasOne hasName letterOf
 not-one op f e p = ne-eqb op 27 (λ h. p (ap letterOf (sym e) ∙ ap (λ (k : ℕ). letterOf (formOf k)) h))
 

@@ -13,7 +13,7 @@ use Rattle.inst.specs.Forms.{Form, none, eight, one, name, undefined, formOf, l
 use Rattle.inst.specs.Records.{part, nameIn, fits, wellFormed}
 use Rattle.inst.proofs.Laws.{never, and-left, and-right, form-back}
 use Rattle.inst_encode.specs.Encode.{bytesOf, operandBytes, asBytes}
-use Rattle.inst_encode.proofs.Laws.{headSize, encodedSize}
+use Rattle.inst_encode.proofs.Laws.{headSize, recordSize}
 
 pub length-bytes : (k n : ℕ) → length (bytesOf k n) ≡ k
 unfolding bytesOf
@@ -43,12 +43,12 @@ module _ (image : List ℕ) (i : Inst) where
       (omega arith, omega arith)
   sized undefined w = never w
 
-  pub size-is : wellFormed image i ≡ true → length (asBytes image i) ≡ encodedSize i
-  unfolding Sized wellFormed asBytes encodedSize
+  pub size-is : wellFormed image i ≡ true → length (asBytes image i) ≡ recordSize i
+  unfolding Sized wellFormed asBytes recordSize
   size-is w = sized (formOf (i .typ)) w .0
 
-  pub size-below : wellFormed image i ≡ true → encodedSize i ≤ 9 + length image
-  unfolding Sized wellFormed encodedSize
+  pub size-below : wellFormed image i ≡ true → recordSize i ≤ 9 + length image
+  unfolding Sized wellFormed recordSize
   size-below w = sized (formOf (i .typ)) w .1
 
   -- the code's answers to both
@@ -57,5 +57,5 @@ module _ (image : List ℕ) (i : Inst) where
   formed b n e h = h ∙ ap (fits image i) (ap formAt e ∙ sym (form-back (formOf (i .typ))))
 
   pub len-is : (n : ℕ) → wellFormed image i ≡ true → n ≡ headSize (formOf (i .typ)) + i .len → n ≡ cond (wellFormed image i) (length (asBytes image i)) 0
-  unfolding encodedSize
+  unfolding recordSize
   len-is n w e = rw w (e ∙ sym (size-is w))

@@ -54,8 +54,8 @@ headSize one = 2
 headSize name = 9
 headSize undefined = 1
 
-unfoldable pub encodedSize : Inst → ℕ
-encodedSize i = headSize (formOf (i .typ)) + i .len
+unfoldable pub recordSize : Inst → ℕ
+recordSize i = headSize (formOf (i .typ)) + i .len
 
 -- a record's bytes by its form, and what has no operand
 pub bytes-are : (image : List ℕ) (i : Inst) (f : Form) → formOf (i .typ) ≡ f → asBytes image i ≡ i .typ ∷ operandBytes image i f

@@ -17,7 +17,8 @@ use Rattle.machine.specs.Load.{isLabel, halt, Scan, Scanned, stops, goes, begin
 use Rattle.tables.specs.Tables.{numbersOf, bytesOf, instNumbers, instBytes}
 use Rattle.loader.specs.Loading.{instsLeft, Accepts}
 use Rattle.loader.proofs.Rests.{Rest, rest-next, rest-stop, rest-end}
-use Rattle.loader.proofs.Loads.{never-both, is-closed, accepted-rest}
+use Rattle.machine.proofs.Loads.{never-both, finished-is}
+use Rattle.loader.proofs.Loads.{accepted-rest}
 use Rattle.loader.proofs.Stores.{inst-more, halt-more}
 
 -- where the scan s goes on with the instruction i of this size: the bytes and the instructions that it has then
@@ -66,7 +67,7 @@ module _ (image xs : List ℕ) where
     filling-ends h count a insts′ t =
         let l = a .loaded in
         let r = f l (a .is) in
-        let k = is-closed image l (r .to) (rest-end image (r .to) (accepts l) (rw (r .at-is) at h) (r .rest)) in
+        let k = finished-is image l (r .to) (rest-end image (r .to) (accepts l) (rw (r .at-is) at h) (r .rest)) in
         let m : count ≡ length (closed (r .to .insts)) = a .count-is ∙ ap length (k .insts-are) in
         rw (a .is)
         (t

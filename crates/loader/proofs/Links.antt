@@ -15,7 +15,8 @@ use Rattle.machine.specs.declared.Label.{Label}
 use Rattle.machine.specs.Load.{isLabel, halt, head, linked, Scan, Scanned, stops, goes, begin, scanOne, andThen, scan, lastIsHalt, closed, Loaded, accepts, finished, loads}
 use Rattle.loader.proofs.Scans.{lastInst}
 use Rattle.loader.proofs.Rests.{linked-long, grown}
-use Rattle.loader.proofs.Loads.{never-both, is-closed, not-finished, accepted-rest}
+use Rattle.machine.proofs.Loads.{never-both, finished-is}
+use Rattle.loader.proofs.Loads.{not-finished, accepted-rest}
 
 -- the label table behind instructions, the first of which is instruction n
 unfoldable pub links : ℕ → List Inst → List Label → List Label
@@ -71,7 +72,7 @@ module _ (image : List ℕ) (l : Loaded) where
 
   linked-end : (s : Scan) → Linked (s .insts) (s .labels) → finished image (goes s) ≡ accepts l → Linked (l .insts) (l .labels)
   linked-end s k e =
-      let c = is-closed image l s e in
+      let c = finished-is image l s e in
       rw (c .insts-are, c .labels-are) (record { labels-are = k .labels-are ∙ sym (links-closed (s .insts) (head 0 ∷ [])); fit = k .fit })
 
   -- with one instruction more, if what follows it is so

@@ -18,7 +18,7 @@ use Rattle.loader.specs.declared.Checked.{Checked}
 use Rattle.loader.specs.Loading.{checkedOf, instsLeft}
 use Rattle.loader.specs.Linking.{noLink, headBy, headLink, labelLink, nextLink, Covers}
 use Rattle.loader.proofs.Rests.{linked-long}
-use Rattle.loader.proofs.Loads.{AcceptedLoad, load-accepts}
+use Rattle.machine.proofs.Loads.{AcceptedLoad, load-accepts}
 use Rattle.loader.proofs.Links.{links, links-grow, accepted-linked}
 
 -- the record to be linked, behind those before; the first record is the head
@@ -125,7 +125,7 @@ module _ {B : Type 0} (image insts₀ : List ℕ) (ls₀ : List Label) (labels�
   unfolding checkedOf headBy State leaves linkedOn
   begun (rejects n) g e p h = rw h (ap leaves (sym g))
   begun (accepts l) g e p h =
-      let k = accepted-linked image l (load-accepts image (instsOf insts₀) ls₀ l g .is) in
+      let k = accepted-linked image l (load-accepts image (instsOf insts₀) ls₀ l g .accepted) in
       rw h (record { loaded = l; is = g; before = []; has-labels = e; index-is = refl; count-is = refl; labels-are = refl; index-low = omega arith; rest = sym (k .labels-are) })
 
   pub underway-begins : (r : Checked) → r ≡ checkedOf given → (p : Linking) → p ≡ headLink r → labels₀ ≡ holding [] → Underway p labels₀
@@ -153,7 +153,7 @@ module _ {B : Type 0} (image insts₀ : List ℕ) (ls₀ : List Label) (labels�
 
     pub index-inside : p .index < length ls₀
     index-inside =
-        let k = accepted-linked image (at .loaded) (facts .is) .fit in
+        let k = accepted-linked image (at .loaded) (facts .accepted) .fit in
         let a = one-of in
         let d = at .labels-are in
         let e = facts .labels-room in

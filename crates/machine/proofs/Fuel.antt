@@ -5,16 +5,16 @@ use mathlib.Core.Path.{_≡_, refl, subst}
 use mathlib.Core.Bool.{Bool, true, false, cond, _&&_}
 use mathlib.Core.List.{List}
 use native.Mathlib.Omega.{arith}
-use lib.Dec.{eqb, ltb, leb}
+use lib.Dec.{eqb, ltb}
 use lib.ListN.{length}
 use borrow.Author.Tests.{ltb-true, ltb-false, eqb-false}
 use Rattle.inst.specs.Records.{nameIn, same}
 use Rattle.inst.proofs.Laws.{by-test, and-left}
 use Rattle.inst_decode.specs.Decode.{Answer, refused, reads}
 use Rattle.inst_decode.proofs.Facts.{Told, told}
-use Rattle.machine.specs.Limits.{instLimit, labelRecords}
-use Rattle.machine.specs.Load.{isLabel, nameOf, Scan, Scanned, stops, goes, begin, added, scanOne, andThen, scan}
+use Rattle.machine.specs.Load.{nameOf, Scan, Scanned, stops, goes, begin, scanOne, andThen, scan}
 use Rattle.machine.specs.Lookup.{Program, Found, illChain, noLabel, labelAt, inProgram, walk}
+use Rattle.machine.proofs.Loads.{one-case}
 
 -- no bytes are left but n
 unfoldable Left : List ℕ → ℕ → Scanned → Type 0
@@ -27,10 +27,7 @@ module _ (image : List ℕ) where
   one-less n s (refused k) h t = tt
   one-less n s (reads i size) h t =
       let l : length image ≤ s .at + size + n = omega (arith, t .moves) in
-      by-test (Left image n) (leb instLimit (length (s .insts))) _ _ (λ _. tt) λ _.
-      by-test (Left image n) (isLabel i) _ _
-      (λ _. by-test (Left image n) (leb labelRecords (length (s .labels))) _ (added s i size _) (λ _. tt) (λ _. l))
-      (λ _. l)
+      one-case (Left image n) s i size tt tt (λ _ _. l) (λ _. l)
 
   then-none : (rest : Scan → Scanned) (n : ℕ) → ((s : Scan) → length image ≤ s .at + n → Left image 0 (rest s)) → (r : Scanned) → Left image n r
       → Left image 0 (andThen rest r)

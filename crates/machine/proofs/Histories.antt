@@ -9,7 +9,7 @@ use native.Mathlib.Omega.{arith}
 use lib.Dec.{eqb}
 use lib.IntN.{_+ℤ_}
 use lib.ListN.{length, take, drop, length-append}
-use lib.Seq.{sets, sets-eq, length-sets, take-append-seam, drop-append-seam}
+use lib.Seq.{sets, length-sets, take-append-seam, drop-append-seam}
 use borrow.Author.Tests.{eqb-true, eqb-false}
 use Rattle.machine.specs.declared.Machine.{Machine}
 use Rattle.machine.specs.declared.Ending.{Ending}
@@ -23,6 +23,7 @@ use Rattle.machine.specs.History.{State, none, end, endWith, advance, st
 use Rattle.machine.specs.Steps.{CallsLeft}
 use Rattle.machine.specs.Statements.{is-ill, is-full, is-trap, Because, RunsAreHistories}
 use Rattle.inst.proofs.Laws.{by-test, never, and-left, and-right}
+use Rattle.machine.proofs.Loads.{filled}
 use Rattle.machine.proofs.Lists.{length-dropLast}
 use Rattle.machine.proofs.Does.{CallsAre, Room, Does, anywhere}
 
@@ -210,14 +211,11 @@ module _ (p : Program) (first : State) where
 
 -- the front of the buffer is the cells dumped, and the rest is as it was
 module _ (cells buffer : List ℕ) (fits : length cells ≤ length buffer) where
-  filled : sets buffer 0 cells ≡ cells ++ drop (length cells) buffer
-  filled = sets-eq cells buffer 0 (rw zero-add fits) ∙ rw zero-add
-
   pub front : take (length cells) (sets buffer 0 cells) ≡ cells
-  front = rw filled (take-append-seam cells (drop (length cells) buffer))
+  front = rw (filled cells buffer fits) (take-append-seam cells (drop (length cells) buffer))
 
   pub rest : drop (length cells) (sets buffer 0 cells) ≡ drop (length cells) buffer
-  rest = rw filled (drop-append-seam cells (drop (length cells) buffer))
+  rest = rw (filled cells buffer fits) (drop-append-seam cells (drop (length cells) buffer))
 
 pub runs-are-histories : RunsAreHistories
 unfolding run reported history

@@ -1,5 +1,6 @@
 pub mod Cases
 pub mod Tests
+pub mod Loads
 mod Lists
 pub mod Does
 mod Sound
@@ -7,6 +8,7 @@ pub mod Valid
 pub mod Tables
 pub mod Marks
 mod PlainNaN
+pub mod Refusals
 pub mod Fuel
 pub mod Histories
 mod Only

@@ -1,22 +1,20 @@
 -- Demand 3: every list of runs from the fresh machine is one history. Assumes nothing.
 use Prim.Native.Nat.{ℕ, zero, suc, _+_, _-_, _≤_, _<_}
 use mathlib.Core.Path.{_≡_, refl, ap, _∙_, sym, subst}
-use mathlib.Core.Bool.{Bool, true, false, cond, _||_}
+use mathlib.Core.Bool.{Bool, true, false, cond}
 use mathlib.Core.List.{List, [], _∷_, _++_, append-assoc, append-nil}
 use native.Mathlib.Nat.{add-zero, add-assoc, zero-add}
 use native.Mathlib.Numerals.{add-one}
 use native.Mathlib.Omega.{arith}
-use lib.Dec.{ltb}
 use lib.ListN.{length, drop, length-replicate}
-use lib.Seq.{sets, sets-eq, length-sets}
-use borrow.Author.Tests.{ltb-false}
+use lib.Seq.{length-sets}
 use Rattle.inst.specs.declared.Inst.{Inst}
 use Rattle.inst.specs.Records.{Bytes}
 use Rattle.machine.specs.declared.Machine.{Machine}
 use Rattle.machine.specs.declared.Label.{Label}
 use Rattle.machine.specs.declared.Ending.the-variants.{Number}
-use Rattle.machine.specs.Limits.{stackLimit, callLimit, instLimit, labelRecords}
-use Rattle.machine.specs.Load.{isHalt, Loaded, accepts, rejects, loads, load, instsAfter, labelsAfter, fresh, countOf}
+use Rattle.machine.specs.Limits.{stackLimit, callLimit, labelRecords}
+use Rattle.machine.specs.Load.{isHalt, Loaded, accepts, load, instsAfter, labelsAfter, fresh, countOf}
 use Rattle.machine.specs.Lookup.{Program, leadsTo}
 use Rattle.machine.specs.Change.{callHeight}
 use Rattle.machine.specs.Step.{opOf, instAt, step}
@@ -26,7 +24,8 @@ use Rattle.machine.specs.Touches.{touches}
 use Rattle.machine.specs.Steps.{touchesAt, foundAt}
 use Rattle.machine.specs.History.{State, initial, History, none, end, stepped, programOf, effectsAt, further, history}
 use Rattle.machine.specs.Statements.{Request, runs, lastMachine, totalSteps, allDumped, is-ill, is-full, is-trap, Because, AllBelow, Counted, Below, AllKept, RunsFrom, loadedProgram, RunsAreOneHistory, NamesLeadToLast}
-use Rattle.inst.proofs.Laws.{never, or-left, or-right}
+use Rattle.inst.proofs.Laws.{never}
+use Rattle.machine.proofs.Loads.{filled, AcceptedLoad, load-accepts}
 use Rattle.machine.proofs.Does.{Does, step-does, traps-leave}
 use Rattle.machine.proofs.Sound.{Sound, counted, below, Ahead, at-halt, ahead, stepped-sound}
 use Rattle.machine.proofs.Valid.{Valid, valid}
@@ -218,22 +217,13 @@ module _ (image : List ℕ) (l : Loaded) (v : Valid image l) where
         subst (λ (x : Result). Chained n s (q ∷ qs) (x ∷ rs)) (sym (w .0))
         (chained-cons n s q qs c rs j (chained qs rs (n + c .steps) (j .last) (j .history-is) (j .counts) (subst (λ (x : Machine). RunsFrom Q x qs rs) m (w .1))))
 
--- filled from the front, with the rest behind
-filled : {A : Type 0} (rs old : List A) → length rs ≤ length old → sets old 0 rs ≡ rs ++ drop (length rs) old
-filled rs old h = sets-eq rs old 0 (rw zero-add h) ∙ rw zero-add
-
 -- an accepted image, and what its runs are lent
 module _ (image : List ℕ) (insts : List Inst) (labels : List Label) (l : Loaded) (bytes : Bytes image) (e : load image insts labels ≡ accepts l) where
-  by-room : (b : Bool) → cond b (rejects 10) (loads image) ≡ accepts l → (b ≡ false) × (loads image ≡ accepts l)
-  by-room true e = absurd (let z : _≡_ {A = ℕ} 0 1 = cc in omega arith)
-  by-room false e = (refl, e)
-
-  room : ((ltb (length insts) instLimit || ltb (length labels) labelRecords) ≡ false) × (loads image ≡ accepts l)
-  unfolding load
-  room = by-room (ltb (length insts) instLimit || ltb (length labels) labelRecords) e
+  lent : AcceptedLoad image insts labels l
+  lent = load-accepts image insts labels l e
 
   accepted : Valid image l
-  accepted = valid image l bytes (room .1)
+  accepted = valid image l bytes (lent .accepted)
 
   abbrev is' : List Inst
   is' = drop (countOf l) insts
@@ -245,9 +235,9 @@ module _ (image : List ℕ) (insts : List Inst) (labels : List Label) (l : Loade
   unfolding loadedProgram instsAfter labelsAfter
   lent-is =
       let c = accepted .chain in
-      let is = filled (l .insts) insts (omega (arith, accepted .count-fits, ltb-false (length insts) instLimit (or-left _ _ (room .0)))) in
+      let is = filled (l .insts) insts (omega (arith, lent .count-fits, lent .insts-room)) in
       let size : length (l .labels) ≤ labelRecords = rw (c .labels-are) (c .fit) in
-      let ls = filled (l .labels) labels (omega (arith, ltb-false (length labels) labelRecords (or-right (ltb (length insts) instLimit) _ (room .0)))) in
+      let ls = filled (l .labels) labels (omega (arith, lent .labels-room)) in
       rw (is, ls)
 
 -- the runs of a list are an instance

@@ -22,6 +22,7 @@ use Rattle.machine.specs.Encode.{allWellFormed}
 use Rattle.machine.specs.Statements.{Labels, Defines, DefinesLast}
 use Rattle.inst.proofs.Laws.{by-test, never, and-left, and-right}
 use Rattle.machine.proofs.Cases.{both}
+use Rattle.machine.proofs.Loads.{one-case}
 
 -- definition number i of the label table leads to the one before, has a name in the image and a target among the first n
 pub record Definition (image : List ℕ) (n i : ℕ) (l : Label) : Type 0 where
@@ -85,7 +86,7 @@ halt-last [] = refl
 halt-last (i ∷ []) = refl
 halt-last (i ∷ j ∷ is) = halt-last (j ∷ is)
 
-closed-halts : (is : List Inst) → lastIsHalt (closed is) ≡ true
+pub closed-halts : (is : List Inst) → lastIsHalt (closed is) ≡ true
 unfolding closed
 closed-halts is = by-test (λ js. lastIsHalt js ≡ true) (lastIsHalt is) _ _ (λ e. e) (λ _. halt-last is)
 
@@ -218,12 +219,9 @@ module _ (image : List ℕ) (bytes : Bytes image) where
   unfolding scanOne GoodScanned
   one-good s (refused n) g t = tt
   one-good s (reads i size) g t =
-      let n = length (s .insts) in
       let w = t .formed bytes in
-      by-test (GoodScanned image) (leb instLimit n) _ _ (λ _. tt) λ _.
-      by-test (GoodScanned image) (isLabel i) _ _
-      (λ e. by-test (GoodScanned image) (leb labelRecords (length (s .labels))) _ _ (λ _. tt)
-      (λ f. added-good s i size _ g w (chain-linked image (s .insts) i e (label-name image i e w) (s .labels) (g .chain) f)))
+      one-case (GoodScanned image) s i size tt tt
+      (λ e f. added-good s i size _ g w (chain-linked image (s .insts) i e (label-name image i e w) (s .labels) (g .chain) f))
       (λ e. added-good s i size _ g w (chain-more image (s .insts) i _ e (g .chain)))
 
   then-good : (rest : Scan → Scanned) → ((s : Scan) → Good image s → GoodScanned image (rest s)) → (r : Scanned) → GoodScanned image r

@@ -1,4 +1,4 @@
--- What each of the host's calls answers and leaves in every byte that it is lent, by document 01's load, run and encode.
+-- What each of the host's calls answers and leaves in every byte that it is lent, by crate machine's load, run and encode.
 use Prim.Native.Nat.{ℕ, _-_}
 use mathlib.Core.Bool.{cond}
 use mathlib.Core.List.{List}
@@ -6,7 +6,7 @@ use lib.Dec.{eqb}
 use lib.ListN.{length}
 use Rattle.machine.specs.Load.{Load, rejects, accepts, fresh, countOf}
 use Rattle.machine.specs.Run.{Result}
-use Rattle.machine.specs.Encode.{Encoded, unencoded, encoded, encode, outputAfter}
+use Rattle.machine.specs.Encode.{Encoded, unencoded, encoded, encode, encodedSize, outputAfter}
 use Rattle.tables.specs.Tables.{instsOf, program}
 use Rattle.loader.specs.Loading.{loadOf, instsLeft, labelsLeft}
 use Rattle.run.specs.declared.progress.Progress.{Progress}
@@ -14,6 +14,7 @@ use Rattle.run.specs.Turns.{endingOf}
 use Rattle.run.specs.Runs.{runBytes}
 use Rattle.c_answers.specs.declared.Ran.{Ran}
 use Rattle.c_answers.specs.Endings.{endingNumber}
+use Rattle.mm_host.specs.declared.Encoded as numbers
 use Rattle.machine_bytes.specs.Layout.{machineSize, isMachine, machineOf, machineBytes}
 
 -- what is lent is no machine; a number of our own
@@ -76,15 +77,16 @@ pub record EncodeCall : Type 0 where
   pub size : ℕ
   pub out : List ℕ
 
-unfoldable pub encodeNumber : Encoded → ℕ
-encodeNumber (unencoded n) = n
-encodeNumber (encoded size) = 0
-
-unfoldable pub encodeSize : Encoded → ℕ
-encodeSize (unencoded n) = 0
-encodeSize (encoded size) = size
+-- the answer's numbers: a number, or 0 and the size
+unfoldable pub numbersOf : Encoded → numbers.Encoded
+numbersOf (unencoded n) = record { number = n; size = 0 }
+numbersOf (encoded size) = record { number = 0; size = size }
 
 unfoldable pub encodeCall : List ℕ → List ℕ → ℕ → List ℕ → EncodeCall
 encodeCall image insts count out =
     let e = encode image (instsOf insts) count out in
-    record { number = encodeNumber e; size = encodeSize e; out = outputAfter e image (instsOf insts) count out }
+    record { number = numbersOf e .number; size = numbersOf e .size; out = outputAfter e image (instsOf insts) count out }
+
+-- the room that this call needs: the answer alone, as nothing is lent to be written
+unfoldable pub sizeCall : List ℕ → List ℕ → ℕ → numbers.Encoded
+sizeCall image insts count = numbersOf (encodedSize image (instsOf insts) count)

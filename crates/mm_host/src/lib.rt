@@ -1,12 +1,14 @@
-// The calls of a host, from Rust or C: load, run and encode over lent bytes, as docs/HOST.md lays them out.
+// The calls of a host, from Rust or C: load, run, encode and the room for it over lent bytes, as docs/HOST.md lays them out.
 // None has a `requires`: each is right for slices of any length and contents, at any address.
 ghost use mathlib.Core.Path.{_≡_};
 ghost use Prim.Native.Nat.{_≤_};
-ghost use Rattle.mm_host.specs.Calls.{ranWith, loadCall, runCall, encodeCall};
+ghost use Rattle.mm_host.specs.Calls.{ranWith, numbersOf, loadCall, runCall, encodeCall, sizeCall};
+ghost use Rattle.encoder.specs.Encoder.{means};
 use c_answers::Loaded;
 use c_answers::Ran;
 use c_answers::ending_number;
 use encoder::Written;
+use encoder::encoded_size;
 use encoder::to_binary;
 use loader::Loading;
 use loader::fresh;
@@ -127,12 +129,11 @@ pub extern "C" fn mm_run(
     ran(p, limit)
 }
 
-#[no_mangle]
-pub extern "C" fn mm_encode(image: &[u8], insts: &[u8], count: u64, out: &mut [u8]) -> Encoded
-    ensures { λ r. ⌜ encodeCall (now (image .entry)) (now (insts .entry)) count (now (out .entry)) ≡ record { number = r .number; size = r .size; out = now (out .exit) } ⌝ }
+// The encoder's answer as numbers.
+fn numbers(answer: Written) -> Encoded
+    ensures { λ r. ⌜ r ≡ numbersOf (means answer) ⌝ }
 {
-    let written = to_binary(image, insts, count as usize, out);
-    match written {
+    match answer {
         Written::Refused(n) => {
             return Encoded {
                 number: n as u64,
@@ -146,4 +147,19 @@ pub extern "C" fn mm_encode(image: &[u8], insts: &[u8], count: u64, out: &mut [u
             };
         }
     }
+}
+
+#[no_mangle]
+pub extern "C" fn mm_encode(image: &[u8], insts: &[u8], count: u64, out: &mut [u8]) -> Encoded
+    ensures { λ r. ⌜ encodeCall (now (image .entry)) (now (insts .entry)) count (now (out .entry)) ≡ record { number = r .number; size = r .size; out = now (out .exit) } ⌝ }
+{
+    numbers(to_binary(image, insts, count as usize, out))
+}
+
+// The size that mm_encode needs and then answers, without writing.
+#[no_mangle]
+pub extern "C" fn mm_encoded_size(image: &[u8], insts: &[u8], count: u64) -> Encoded
+    ensures { λ r. ⌜ r ≡ sizeCall (now (image .entry)) (now (insts .entry)) count ⌝ }
+{
+    numbers(encoded_size(image, insts, count as usize))
 }

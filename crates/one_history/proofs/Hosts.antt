@@ -16,6 +16,7 @@ use Rattle.machine.specs.Lookup.{Program}
 use Rattle.machine.specs.Run.{Result}
 use Rattle.machine.specs.Statements.{RunsFrom, loadedProgram}
 use Rattle.machine.proofs.Runs.{runs-are-one-history}
+use Rattle.machine.proofs.Refusals.{Numbered, load-numbered}
 use Rattle.tables.specs.Tables.{instsOf, labelsOf, numbersIn, program}
 use Rattle.loader.specs.Loading.{loadOf, instsLeft, labelsLeft}
 use Rattle.loader.proofs.Left.{insts-left, labels-left}
@@ -28,7 +29,7 @@ use Rattle.mm_host.specs.Calls.{LoadCall, RunCall, notLoaded, loadedBy, loadCal
 use Rattle.label_run.specs.Runs as runs
 use Rattle.one_history.specs.Host.{HostRun, HostRuns, Ran, RanInPlace, hostRequest, hostResult, NoneIs, HostHistory, HostCallsAreOneHistory, InPlaceHostCallsAreOneHistory}
 use Rattle.one_history.proofs.Keeps.{Told, run-sized, run-told, crosses, never-50}
-use Rattle.one_history.proofs.Refusals.{Numbered, load-numbered, load-labels}
+use Rattle.one_history.proofs.Records.{load-labels}
 
 -- a run's answer that crossed is the run's
 crossed : {M : Type 0} (read : M → Machine) (c : HostRun M) (r : Result) → c .ending ≡ endingNumber (r .ending) → c .steps ≡ r .steps → c .dumped ≡ r .dumped

@@ -1,4 +1,4 @@
 mod Lists
 mod Keeps
-mod Refusals
+mod Records
 mod Hosts

@@ -18,7 +18,7 @@ use Rattle.run.specs.declared.Ran.{Ran}
 use Rattle.run.specs.Runs.{answer, runBytes}
 use Rattle.run.proofs.Cells.{in-cells}
 use Rattle.one_history.specs.Calls.{Call, Called, request, result, OneHistoryOf, CallsAreOneHistory, RecordCallsAreOneHistory}
-use Rattle.one_history.proofs.Refusals.{load-labels}
+use Rattle.one_history.proofs.Records.{load-labels}
 
 -- the contract of a run over the program p
 abbrev Runs : Program → Machine → ℕ → List ℕ → Ran → List ℕ → Type 0

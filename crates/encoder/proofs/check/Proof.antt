@@ -1,11 +1,11 @@
 -- `encoder::check` meets its contract. Assumes nothing.
 use Prim.Native.Nat.{_-_}
-use mathlib.Core.Path.{sym}
 use native.Mathlib.Omega.{arith}
 use borrow.Author.Needs.{needs}
 use Rattle.inst_encode.proofs.Facts.{size-some}
 use Rattle.tables.specs.Tables.{inst, instsOf}
 use Rattle.tables.proofs.Laws.{length-records}
+use Rattle.machine.specs.Encode.{inRoom}
 use Rattle.encoder.specs.Encoder.{means}
 use Rattle.encoder.proofs.Answers.{past, ill-len, well-len}
 use Rattle.encoder.proofs.Records.{Checked, checked-none, checked-ill, checked-next, checked-all}
@@ -19,11 +19,11 @@ abbrev μ-loop : tie.MeasureT-loop
 μ-loop forms image insts count room r₀ i₀ r i = count - i
 
 returns : tie.Need-returns Inv-loop μ-loop
-unfolding means
-returns c out e =
+unfolding means inRoom
+returns c =
     let s = c .before .before .before in
     let l = length-records inst (s .args .insts .now) in
-    sym (past (s .args .image .now) (instsOf (s .args .insts .now)) (s .args .count) out (omega arith))
+    rw (past (s .args .image .now) (instsOf (s .args .insts .now)) (s .args .count) (omega arith))
 
 loop-holds : tie.Need-loop-holds Inv-loop μ-loop
 loop-holds c =
@@ -39,10 +39,10 @@ inst-at-requires c κs =
     omega arith
 
 returns-2 : tie.Need-returns-2 Inv-loop μ-loop
-unfolding means
-returns-2 c out e =
+unfolding means inRoom
+returns-2 c =
     let w = ill-len _ _ _ (c .before .checked-len .ensures) (size-some _ _) (c .if2 .taken) in
-    sym (checked-ill _ _ _ _ _ _ (c .before .before .before .before .loop .inv) _ out (c .before .before .before .loop-test .taken) (c .before .before .inst-at .ensures) w)
+    rw (checked-ill _ _ _ _ _ _ (c .before .before .before .before .loop .inv) _ (c .before .before .before .loop-test .taken) (c .before .before .inst-at .ensures) w)
 
 loop-again : tie.Need-loop-again Inv-loop μ-loop
 loop-again c =
@@ -53,7 +53,7 @@ answer-requires : tie.Need-answer-requires Inv-loop μ-loop
 answer-requires c κs = c .before .loop .inv .fits .inside
 
 returns-3 : tie.Need-returns-3 Inv-loop μ-loop
-returns-3 c out e = checked-all _ _ _ _ _ _ (c .before .before .loop .inv) _ out e (c .before .loop-test .left) (c .answer .ensures)
+returns-3 c = checked-all _ _ _ _ _ _ (c .before .before .loop .inv) _ (c .before .loop-test .left) (c .answer .ensures)
 
 pub check-spec : {M : Type 1} → statement M
 check-spec =

@@ -4,7 +4,7 @@ use mathlib.Core.List.{[]}
 use native.Mathlib.Omega.{arith}
 use borrow.Author.Tests.{not-true, not-false}
 use Rattle.inst.proofs.Laws.{is-form}
-use Rattle.inst_encode.proofs.Laws.{headSize, encodedSize, no-operand}
+use Rattle.inst_encode.proofs.Laws.{headSize, recordSize, no-operand}
 use Rattle.inst_encode.proofs.Facts.{size-below, formed, len-is}
 use borrow.Author.Needs.{needs}
 use Rattle.inst_encode.proofs.checked_len.Statement.{statement}
@@ -16,7 +16,7 @@ returns c =
     simp w
 
 add-result : tie.Need-add-result
-unfolding encodedSize headSize
+unfolding recordSize headSize
 add-result c =
     let s = c .before .before .before .before .before in
     let h = simp (is-form _ _ 56 (c .before .before .before .form .ensures) (c .match .keys1)) at (size-below (s .args .image .now) (s .args .inst) (sym (formed (c .before .before .before .before .before .args .image .now) (c .before .before .before .before .before .args .inst) _ _ (c .before .before .before .form .ensures) (c .before .before .has-form .ensures)) ∙ not-false _ (c .before .if1 .left))) in
@@ -24,7 +24,7 @@ add-result c =
     omega arith
 
 add-result-2 : tie.Need-add-result-2
-unfolding encodedSize headSize
+unfolding recordSize headSize
 add-result-2 c =
     let s = c .before .before .before .before .before in
     let h = simp (is-form _ _ 49 (c .before .before .before .form .ensures) (c .match .keys2)) at (size-below (s .args .image .now) (s .args .inst) (sym (formed (c .before .before .before .before .before .args .image .now) (c .before .before .before .before .before .args .inst) _ _ (c .before .before .before .form .ensures) (c .before .before .has-form .ensures)) ∙ not-false _ (c .before .if1 .left))) in
@@ -32,7 +32,7 @@ add-result-2 c =
     omega arith
 
 add-result-3 : tie.Need-add-result-3
-unfolding encodedSize headSize
+unfolding recordSize headSize
 add-result-3 c =
     let s = c .before .before .before .before .before in
     let h = simp (is-form _ _ 110 (c .before .before .before .form .ensures) (c .match .keys3)) at (size-below (s .args .image .now) (s .args .inst) (sym (formed (c .before .before .before .before .before .args .image .now) (c .before .before .before .before .before .args .inst) _ _ (c .before .before .before .form .ensures) (c .before .before .has-form .ensures)) ∙ not-false _ (c .before .if1 .left))) in
@@ -40,7 +40,7 @@ add-result-3 c =
     omega arith
 
 add-result-4 : tie.Need-add-result-4
-unfolding encodedSize
+unfolding recordSize
 add-result-4 c =
     let s = c .before .before .before .before .before in
     let h = simp (no-operand [] (s .args .inst) _ _ (c .before .before .before .form .ensures) (c .match .rest .0 .0 .1) (c .match .rest .0 .1) (c .match .rest .1) .1) at (size-below (s .args .image .now) (s .args .inst) (sym (formed (c .before .before .before .before .before .args .image .now) (c .before .before .before .before .before .args .inst) _ _ (c .before .before .before .form .ensures) (c .before .before .has-form .ensures)) ∙ not-false _ (c .before .if1 .left))) in

@@ -7,7 +7,7 @@ use lib.Seq.{length-sets}
 use Rattle.inst.specs.Forms.{eight, one, name}
 use Rattle.inst_encode.specs.Encode.{bytesOf, operandBytes, asBytes}
 use Rattle.inst.proofs.Laws.{is-form}
-use Rattle.inst_encode.proofs.Laws.{headSize, encodedSize, bytes-are, no-operand, stored-first}
+use Rattle.inst_encode.proofs.Laws.{headSize, recordSize, bytes-are, no-operand, stored-first}
 use Rattle.inst.proofs.Facts.{typ-byte, name-inside}
 use Rattle.inst_encode.proofs.Facts.{size-is}
 use borrow.Author.Needs.{needs}
@@ -39,7 +39,7 @@ put-number-requires-2 c κs =
     simp length-set (omega arith)
 
 put-named-requires : tie.Need-put-named-requires
-unfolding encodedSize headSize
+unfolding recordSize headSize
 put-named-requires c κs =
     let s = c .before .before .before .before .before .before in
     let e = is-form _ _ 110 (c .before .before .form .ensures) (c .before .match .keys3) in
@@ -47,7 +47,7 @@ put-named-requires c κs =
     (name-inside (s .args .image .now) (s .args .inst) (s .pre .1 .0) e, simp length-set (omega arith))
 
 add-result : tie.Need-add-result
-unfolding encodedSize headSize
+unfolding recordSize headSize
 add-result c =
     let s = c .before .before .before .before .before .before .before .before .before in
     let n = simp (is-form _ _ 110 (c .before .before .before .before .before .form .ensures) (c .before .before .before .before .match .keys3)) at (size-is (s .args .image .now) (s .args .inst) (s .pre .1 .0)) in
@@ -77,7 +77,7 @@ same-length-3 : tie.Need-same-length-3
 same-length-3 c = simp (c .before .before .put-named .ensures, length-sets, length-set)
 
 returns-3 : tie.Need-returns-3
-unfolding operandBytes encodedSize headSize
+unfolding operandBytes recordSize headSize
 returns-3 c =
     let s = c .before .before .before .before .before .before .before .before .before in
     let e = is-form _ _ 110 (c .before .before .before .before .before .form .ensures) (c .before .before .before .before .match .keys3) in

@@ -8,7 +8,7 @@ use Rattle.inst_decode.specs.Decode.{means}
 use Rattle.inst_decode.proofs.Facts.{read-in}
 use Rattle.tables.specs.Tables.{bytesOf, instNumbers}
 use Rattle.loader.proofs.Instructions.{refused-is}
-use Rattle.loader.proofs.Loads.{accepted-fits}
+use Rattle.machine.proofs.Loads.{parsed}
 use Rattle.loader.proofs.Stores.{put-long}
 use Rattle.loader.proofs.Fillings.{Filling, filling-begins, filling-next, filling-room, filling-never, filling-ends}
 use Rattle.loader.proofs.filling.fill.Statement.{statement}
@@ -65,7 +65,7 @@ loop-again c = (
 close-requires : tie.Need-close-requires Inv-loop μ-loop
 close-requires c κs =
     let a = c .before .before .before .before .before .before .pre .0 in
-    let k = accepted-fits _ (a .loaded) (a .is) in
+    let k = parsed _ (a .loaded) (a .is) .passes .fits in
     let n = a .count-is in
     omega (arith, k, n, c .before .before .before .before .before .before .pre .1, c .before .before .loop .inv .0)
 

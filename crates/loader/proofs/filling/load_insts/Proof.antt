@@ -3,7 +3,8 @@ use mathlib.Core.Path.{sym}
 use native.Mathlib.Omega.{arith}
 use Rattle.tables.specs.Tables.{inst, instsOf}
 use Rattle.tables.proofs.Laws.{length-records}
-use Rattle.loader.proofs.Loads.{few-insts, few-labels, enough, refused-with, refused-there, accepted-load}
+use Rattle.machine.proofs.Loads.{enough}
+use Rattle.loader.proofs.Loads.{few-insts, few-labels, refused-with, refused-there, accepted-load}
 use borrow.Author.Needs.{needs}
 use Rattle.loader.proofs.filling.load_insts.Statement.{statement}
 use Rattle.loader.proofs.filling.load_insts.Tie as tie

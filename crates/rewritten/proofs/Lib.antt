@@ -1,0 +1,12 @@
+mod Numbers
+mod Instructions
+mod Places
+mod Scans
+mod Written
+mod Again
+mod Ends
+mod Kept
+mod Encodes
+mod Whole
+mod Calls
+mod Hosts
