@@ -54,8 +54,8 @@ enum mm_refusal {
     MM_TOO_MANY_LABELS = 6,       /* the program defines more than 512 labels */
     MM_NO_START = 7,              /* the program defines no label _start */
     MM_NATIVE = 8,                /* the program has a NATIVE instruction, and there is no native function to call */
-    MM_ILL_RECORD = 9,            /* the instruction table has a record that no load writes, or fewer records than its count says */
-    MM_NO_ROOM = 10               /* a table is shorter than a load needs, or the output shorter than the program written out */
+    MM_ILL_RECORD = 9,            /* the instruction table has an ill record, or fewer records than its count says */
+    MM_NO_ROOM = 10               /* a table is shorter than a load needs, or the output shorter than the program written out, or no output would be long enough */
 };
 
 /* How a run ends. A further run goes on where this one stopped: after a trap it tries the same instruction again, after MM_HALTED and MM_ILL_STATE it takes no

@@ -87,7 +87,7 @@ impl<'a> Program<'a> {
     ///
     /// # Errors
     ///
-    /// [`Refusal::IllRecord`] where the instruction table isn't one that a load leaves; [`Refusal::NoRoom`] where no output would have the room. Both are
+    /// [`Refusal::IllRecord`] where a record is ill, or the table has fewer than the count; [`Refusal::NoRoom`] where no output would have the room. Both are
     /// proved not to happen while image and table are as the load left them, and safe code can't change them.
     pub fn encoded_size(&self) -> Result<usize, Refusal> {
         let encoded = sys::encoded_size(self.image, self.insts, self.count);

@@ -18,8 +18,8 @@ numbered! {
         TooManyLabels = 6, "the program defines more than 512 labels";
         NoStart = 7, "the program defines no label _start";
         Native = 8, "the program has a NATIVE instruction, and there is no native function to call";
-        IllRecord = 9, "the instruction table has a record that no load writes, or fewer records than its count says";
-        NoRoom = 10, "a table is shorter than a load needs, or the output shorter than the program written out";
+        IllRecord = 9, "the instruction table has an ill record, or fewer records than its count says";
+        NoRoom = 10, "a table is shorter than a load needs, or the output shorter than the program written out, or no output would be long enough";
     }
 }
 

@@ -54,13 +54,14 @@ accepted-at ip count image (accepts l) g e = record { loaded = l; is = g; count-
 pub accepted-load : (ip count : ℕ) (image : List ℕ) (r : Checked) → r ≡ checkedOf (loads image) → Accepted ip count ≡ r .loading → Accepts image count
 accepted-load ip count image r g e = accepted-at ip count image (loads image) refl (e ∙ ap (λ (c : Checked). c .loading) g)
 
--- an accepted scan
+-- an image that loads to l
 module _ (image : List ℕ) (l : Loaded) where
+  -- a scan that stops gives its number
   pub not-finished : (n : ℕ) → finished image (stops n) ≡ accepts l → rejects n ≡ accepts l
   unfolding finished
   not-finished n q = q
 
-  -- its image's scan gives what it loads to
+  -- all that there is to scan gives what it loads to
   pub accepted-rest : loads image ≡ accepts l → Rest image begin (accepts l)
   unfolding loads
   accepted-rest =

@@ -23,7 +23,7 @@ use Rattle.machine.specs.History.{State, none, end, endWith, advance, st
 use Rattle.machine.specs.Steps.{CallsLeft}
 use Rattle.machine.specs.Statements.{is-ill, is-full, is-trap, Because, RunsAreHistories}
 use Rattle.inst.proofs.Laws.{by-test, never, and-left, and-right}
-use Rattle.machine.proofs.Loads.{filled}
+use Rattle.machine.proofs.Lists.{filled}
 use Rattle.machine.proofs.Lists.{length-dropLast}
 use Rattle.machine.proofs.Does.{CallsAre, Room, Does, anywhere}
 

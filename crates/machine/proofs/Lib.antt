@@ -1,7 +1,7 @@
 pub mod Cases
 pub mod Tests
 pub mod Loads
-mod Lists
+pub mod Lists
 pub mod Does
 mod Sound
 pub mod Valid

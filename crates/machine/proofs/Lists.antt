@@ -1,11 +1,11 @@
--- Lists without their last, lists of numbers below a bound, and lists that differ in some slots at most. Assumes nothing.
-use Prim.Native.Nat.{ℕ, zero, suc, _<_}
+-- Lists without their last, lists of numbers below a bound, lists that differ in some slots at most, and lists filled from the front. Assumes nothing.
+use Prim.Native.Nat.{ℕ, zero, suc, _≤_, _<_}
 use mathlib.Core.Path.{_≡_, refl, ap, _∙_}
 use mathlib.Core.List.{List, [], _∷_, _++_, map}
-use native.Mathlib.Nat.{le-of-suc-le-suc, not-suc-le-zero}
+use native.Mathlib.Nat.{zero-add, le-of-suc-le-suc, not-suc-le-zero}
 use lib.Dec.{eqb}
-use lib.ListN.{length, getD, set, take, length-set}
-use lib.Seq.{take-suc, getD-set-other}
+use lib.ListN.{length, getD, set, take, drop, length-set}
+use lib.Seq.{take-suc, getD-set-other, sets, sets-eq}
 use borrow.Author.Tests.{eqb-false}
 use Rattle.machine.specs.Effects.{dropLast}
 use Rattle.machine.specs.Steps.{isOneOf, Except}
@@ -69,3 +69,7 @@ module _ (xs : List ℕ) (k v : ℕ) where
 
   pub one : Except (k ∷ []) xs (set xs k v)
   one = stored [] xs (unchanged [] xs)
+
+-- a list filled from the front, with the rest behind
+pub filled : {A : Type 0} (rs old : List A) → length rs ≤ length old → sets old 0 rs ≡ rs ++ drop (length rs) old
+filled rs old h = sets-eq rs old 0 (rw zero-add h) ∙ rw zero-add

@@ -1,13 +1,11 @@
 -- What an accepted image says of its scan and of the lent tables, and what a scan has to give for its image to be accepted. Assumes nothing.
 use Prim.Native.Nat.{ℕ, _≤_}
-use mathlib.Core.Path.{_≡_, refl, ap, _∙_, subst}
+use mathlib.Core.Path.{_≡_, refl, ap, subst}
 use mathlib.Core.Bool.{Bool, true, false, cond, _||_}
-use mathlib.Core.List.{List, _++_}
-use native.Mathlib.Nat.{zero-add}
+use mathlib.Core.List.{List}
 use native.Mathlib.Omega.{arith}
 use lib.Dec.{ltb, leb}
 use lib.ListN.{length, drop}
-use lib.Seq.{sets, sets-eq}
 use borrow.Author.Tests.{ltb-false, le-ltb}
 use Rattle.inst.specs.declared.Inst.{Inst}
 use Rattle.inst.proofs.Laws.{by-test, or-left, or-right}
@@ -19,10 +17,6 @@ use Rattle.machine.specs.Load.{isLabel, startName, linked, Scan, Scanned
 -- no refusal is an acceptance
 pub never-both : {A : Type 0} (n : ℕ) (l : Loaded) → rejects n ≡ accepts l → A
 never-both n l e = absurd (let z : _≡_ {A = ℕ} 0 1 = cc in omega arith)
-
--- a list filled from the front, with the rest behind
-pub filled : {A : Type 0} (rs old : List A) → length rs ≤ length old → sets old 0 rs ≡ rs ++ drop (length rs) old
-filled rs old h = sets-eq rs old 0 (rw zero-add h) ∙ rw zero-add
 
 -- one instruction more: 5, 6, a label linked, or the labels as they were
 pub one-case : (P : Scanned → Type 0) (s : Scan) (i : Inst) (size : ℕ) → P (stops 5) → P (stops 6)

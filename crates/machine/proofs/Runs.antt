@@ -25,7 +25,8 @@ use Rattle.machine.specs.Steps.{touchesAt, foundAt}
 use Rattle.machine.specs.History.{State, initial, History, none, end, stepped, programOf, effectsAt, further, history}
 use Rattle.machine.specs.Statements.{Request, runs, lastMachine, totalSteps, allDumped, is-ill, is-full, is-trap, Because, AllBelow, Counted, Below, AllKept, RunsFrom, loadedProgram, RunsAreOneHistory, NamesLeadToLast}
 use Rattle.inst.proofs.Laws.{never}
-use Rattle.machine.proofs.Loads.{filled, AcceptedLoad, load-accepts}
+use Rattle.machine.proofs.Lists.{filled}
+use Rattle.machine.proofs.Loads.{AcceptedLoad, load-accepts}
 use Rattle.machine.proofs.Does.{Does, step-does, traps-leave}
 use Rattle.machine.proofs.Sound.{Sound, counted, below, Ahead, at-halt, ahead, stepped-sound}
 use Rattle.machine.proofs.Valid.{Valid, valid}
@@ -219,11 +220,11 @@ module _ (image : List ℕ) (l : Loaded) (v : Valid image l) where
 
 -- an accepted image, and what its runs are lent
 module _ (image : List ℕ) (insts : List Inst) (labels : List Label) (l : Loaded) (bytes : Bytes image) (e : load image insts labels ≡ accepts l) where
-  lent : AcceptedLoad image insts labels l
-  lent = load-accepts image insts labels l e
+  accepted-load : AcceptedLoad image insts labels l
+  accepted-load = load-accepts image insts labels l e
 
   accepted : Valid image l
-  accepted = valid image l bytes (lent .accepted)
+  accepted = valid image l bytes (accepted-load .accepted)
 
   abbrev is' : List Inst
   is' = drop (countOf l) insts
@@ -235,9 +236,9 @@ module _ (image : List ℕ) (insts : List Inst) (labels : List Label) (l : Loade
   unfolding loadedProgram instsAfter labelsAfter
   lent-is =
       let c = accepted .chain in
-      let is = filled (l .insts) insts (omega (arith, lent .count-fits, lent .insts-room)) in
+      let is = filled (l .insts) insts (omega (arith, accepted-load .count-fits, accepted-load .insts-room)) in
       let size : length (l .labels) ≤ labelRecords = rw (c .labels-are) (c .fit) in
-      let ls = filled (l .labels) labels (omega (arith, lent .labels-room)) in
+      let ls = filled (l .labels) labels (omega (arith, accepted-load .labels-room)) in
       rw (is, ls)
 
 -- the runs of a list are an instance

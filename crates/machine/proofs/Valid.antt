@@ -45,7 +45,6 @@ pub record Chain (image : List ℕ) (insts : List Inst) (labels : List Label) : 
 pub record Valid (image : List ℕ) (l : Loaded) : Type 0 where
   pub well : allWellFormed image (l .insts) ≡ true
   pub halts-last : (i : ℕ) → i < countOf l → isHalt (getD (l .insts) i halt) ≡ false → suc i < countOf l
-  pub count-fits : countOf l ≤ instLimit
   pub chain : Chain image (l .insts) (l .labels)
   pub start-is : DefinesLast image (l .insts) startName (l .ip)
 
@@ -263,12 +262,11 @@ module _ (image : List ℕ) where
   entered-good s (entry t) g q =
       let n = length (closed (s .insts)) in
       let c = chain-closed image (s .insts) (s .labels) (g .chain) in
-      by-test (GoodLoad image) (ltb instLimit n) _ _ (λ _. tt) λ f.
+      by-test (GoodLoad image) (ltb instLimit n) _ _ (λ _. tt) λ _.
       by-test (GoodLoad image) (anyNative (closed (s .insts))) _ (accepts _) (λ _. tt) λ _.
       record {
         well = well-closed image (s .insts) (g .well);
         halts-last = λ i. not-last (closed (s .insts)) i (closed-halts (s .insts));
-        count-fits = ltb-false instLimit n f;
         chain = c;
         start-is = subst (LastIs image (closed (s .insts)) startName)
             (ap (λ (d : List Label). lastOf image startName noEntry (drop 1 d)) (sym (c .labels-are)) ∙ q) (c .last-are startName);

@@ -14,7 +14,7 @@ use Rattle.run.specs.Turns.{endingOf}
 use Rattle.run.specs.Runs.{runBytes}
 use Rattle.c_answers.specs.declared.Ran.{Ran}
 use Rattle.c_answers.specs.Endings.{endingNumber}
-use Rattle.mm_host.specs.declared.Encoded as numbers
+use Rattle.mm_host.specs.declared.Encoded as answer
 use Rattle.machine_bytes.specs.Layout.{machineSize, isMachine, machineOf, machineBytes}
 
 -- what is lent is no machine; a number of our own
@@ -78,15 +78,15 @@ pub record EncodeCall : Type 0 where
   pub out : List ℕ
 
 -- the answer's numbers: a number, or 0 and the size
-unfoldable pub numbersOf : Encoded → numbers.Encoded
-numbersOf (unencoded n) = record { number = n; size = 0 }
-numbersOf (encoded size) = record { number = 0; size = size }
+unfoldable pub encodedNumbers : Encoded → answer.Encoded
+encodedNumbers (unencoded n) = record { number = n; size = 0 }
+encodedNumbers (encoded size) = record { number = 0; size = size }
 
 unfoldable pub encodeCall : List ℕ → List ℕ → ℕ → List ℕ → EncodeCall
 encodeCall image insts count out =
     let e = encode image (instsOf insts) count out in
-    record { number = numbersOf e .number; size = numbersOf e .size; out = outputAfter e image (instsOf insts) count out }
+    record { number = encodedNumbers e .number; size = encodedNumbers e .size; out = outputAfter e image (instsOf insts) count out }
 
 -- the room that this call needs: the answer alone, as nothing is lent to be written
-unfoldable pub sizeCall : List ℕ → List ℕ → ℕ → numbers.Encoded
-sizeCall image insts count = numbersOf (encodedSize image (instsOf insts) count)
+unfoldable pub sizeCall : List ℕ → List ℕ → ℕ → answer.Encoded
+sizeCall image insts count = encodedNumbers (encodedSize image (instsOf insts) count)

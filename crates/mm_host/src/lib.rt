@@ -2,7 +2,7 @@
 // None has a `requires`: each is right for slices of any length and contents, at any address.
 ghost use mathlib.Core.Path.{_≡_};
 ghost use Prim.Native.Nat.{_≤_};
-ghost use Rattle.mm_host.specs.Calls.{ranWith, numbersOf, loadCall, runCall, encodeCall, sizeCall};
+ghost use Rattle.mm_host.specs.Calls.{ranWith, encodedNumbers, loadCall, runCall, encodeCall, sizeCall};
 ghost use Rattle.encoder.specs.Encoder.{means};
 use c_answers::Loaded;
 use c_answers::Ran;
@@ -130,8 +130,8 @@ pub extern "C" fn mm_run(
 }
 
 // The encoder's answer as numbers.
-fn numbers(answer: Written) -> Encoded
-    ensures { λ r. ⌜ r ≡ numbersOf (means answer) ⌝ }
+fn encoded_numbers(answer: Written) -> Encoded
+    ensures { λ r. ⌜ r ≡ encodedNumbers (means answer) ⌝ }
 {
     match answer {
         Written::Refused(n) => {
@@ -153,7 +153,7 @@ fn numbers(answer: Written) -> Encoded
 pub extern "C" fn mm_encode(image: &[u8], insts: &[u8], count: u64, out: &mut [u8]) -> Encoded
     ensures { λ r. ⌜ encodeCall (now (image .entry)) (now (insts .entry)) count (now (out .entry)) ≡ record { number = r .number; size = r .size; out = now (out .exit) } ⌝ }
 {
-    numbers(to_binary(image, insts, count as usize, out))
+    encoded_numbers(to_binary(image, insts, count as usize, out))
 }
 
 // The size that mm_encode needs and then answers, without writing.
@@ -161,5 +161,5 @@ pub extern "C" fn mm_encode(image: &[u8], insts: &[u8], count: u64, out: &mut [u
 pub extern "C" fn mm_encoded_size(image: &[u8], insts: &[u8], count: u64) -> Encoded
     ensures { λ r. ⌜ r ≡ sizeCall (now (image .entry)) (now (insts .entry)) count ⌝ }
 {
-    numbers(encoded_size(image, insts, count as usize))
+    encoded_numbers(encoded_size(image, insts, count as usize))
 }

@@ -1,31 +1,28 @@
 -- A host's calls by their equations are runs of the definitions. Assumes nothing.
 use Prim.Native.Nat.{ℕ}
 use mathlib.Core.Path.{_≡_, refl, ap, sym, _∙_, subst}
-use mathlib.Core.Bool.{Bool, true, false, cond}
 use mathlib.Core.List.{List, [], _∷_, map}
-use native.Mathlib.Omega.{arith}
-use lib.Dec.{eqb}
-use lib.ListN.{length, length-replicate}
+use lib.ListN.{length-replicate}
 use Rattle.inst.specs.declared.Inst.{Inst}
 use Rattle.inst.specs.Records.{Bytes}
 use Rattle.machine.specs.declared.Machine.{Machine}
 use Rattle.machine.specs.declared.Label.{Label}
 use Rattle.machine.specs.Limits.{stackLimit, callLimit, memorySize}
-use Rattle.machine.specs.Load.{Loaded, Load, rejects, accepts, load, instsAfter, labelsAfter, fresh, countOf}
+use Rattle.machine.specs.Load.{Loaded, accepts, load, instsAfter, labelsAfter, fresh, countOf}
 use Rattle.machine.specs.Lookup.{Program}
 use Rattle.machine.specs.Run.{Result}
 use Rattle.machine.specs.Statements.{RunsFrom, loadedProgram}
 use Rattle.machine.proofs.Runs.{runs-are-one-history}
-use Rattle.machine.proofs.Refusals.{Numbered, load-numbered}
 use Rattle.tables.specs.Tables.{instsOf, labelsOf, numbersIn, program}
-use Rattle.loader.specs.Loading.{loadOf, instsLeft, labelsLeft}
+use Rattle.loader.specs.Loading.{instsLeft, labelsLeft}
 use Rattle.loader.proofs.Left.{insts-left, labels-left}
 use Rattle.run.specs.Runs.{runBytes}
 use Rattle.run.proofs.Cells.{cells, in-cells}
 use Rattle.c_answers.specs.Endings.{endingNumber}
-use Rattle.machine_bytes.specs.Layout.{machineSize, machineOf, machineBytes, Sized}
+use Rattle.machine_bytes.specs.Layout.{machineOf, machineBytes, Sized}
 use Rattle.machine_bytes.proofs.Back.{is-machine, machine-back}
-use Rattle.mm_host.specs.Calls.{LoadCall, RunCall, notLoaded, loadedBy, loadCall, noMachine, ranBy, runCall}
+use Rattle.mm_host.specs.Calls.{LoadCall, RunCall, loadedBy, loadCall, noMachine, ranBy, runCall}
+use Rattle.mm_host.proofs.Accepted.{load-accepted}
 use Rattle.label_run.specs.Runs as runs
 use Rattle.one_history.specs.Host.{HostRun, HostRuns, Ran, RanInPlace, hostRequest, hostResult, NoneIs, HostHistory, HostCallsAreOneHistory, InPlaceHostCallsAreOneHistory}
 use Rattle.one_history.proofs.Keeps.{Told, run-sized, run-told, crosses, never-50}
@@ -108,14 +105,6 @@ module _ (image insts : List ℕ) (labels : List Label) (count : ℕ) where
       (sym (ap (λ (a : runs.RunCall). a .dumps) (h .0)))
       (in-place (runBytes q (c .limit) (c .lent) x .machine) cs (subst (λ (y : Machine). HostRuns (RanInPlace image insts labels count) y cs) m (h .1)))
 
--- a load that answers 0 accepted the image
-load-accepted : (b : Bool) (o : Load) (insts labels machine : List ℕ) (r : LoadCall) → Numbered o → cond b (loadedBy o insts labels machine) (notLoaded noMachine insts labels machine) ≡ r → r .number ≡ 0
-    → (l : Loaded) × (o ≡ accepts l) × (loadedBy (accepts l) insts labels machine ≡ r)
-unfolding loadedBy
-load-accepted false o insts labels machine r n e z = absurd (omega (arith, ap (λ (a : LoadCall). a .number) e))
-load-accepted true (rejects k) insts labels machine r n e z = absurd (omega (arith, ap (λ (a : LoadCall). a .number) e))
-load-accepted true (accepts l) insts labels machine r n e z = (l, refl, e)
-
 fresh-sized : (l : Loaded) → Sized (fresh l)
 unfolding fresh
 fresh-sized l = record { stack-long = length-replicate {A = ℕ} stackLimit 0; calls-long = length-replicate {A = ℕ} callLimit 0; memory-long = length-replicate {A = ℕ} memorySize 0 }
@@ -138,7 +127,7 @@ one-history read image insts labels l p bytes e q cs h =
 pub host-calls-are-one-history : HostCallsAreOneHistory
 unfolding loadCall loadedBy
 host-calls-are-one-history image insts labels machine r bytes e z cs h =
-    let a = load-accepted (eqb (length machine) machineSize) (loadOf image insts labels) insts labels machine r (load-numbered image (instsOf insts) (labelsOf labels)) e z in
+    let a = load-accepted image insts labels machine r e z in
     let l = a .0 in
     let f = a .2 in
     let i : r .insts ≡ instsLeft (accepts l) insts = sym (ap (λ (x : LoadCall). x .insts) f) in

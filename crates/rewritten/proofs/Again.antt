@@ -16,8 +16,8 @@ use Rattle.machine.specs.Encode.{bytesOfAll}
 use Rattle.machine.proofs.Loads.{one-case}
 use Rattle.rewritten.specs.Rewritten.{Begins, first, next, SameName}
 use Rattle.rewritten.proofs.Instructions.{Alike, reads-again}
-use Rattle.rewritten.proofs.Places.{ReadAt, Listed}
-use Rattle.rewritten.proofs.Scans.{Step, Scans, done, more, along, begin-listed, step-listed}
+use Rattle.rewritten.proofs.Places.{ReadAt, ReadSoFar}
+use Rattle.rewritten.proofs.Scans.{ReadsOne, Scans, done, more, along, begin-listed, step-listed}
 
 -- ---- names
 
@@ -67,13 +67,13 @@ module _ (image w : List ℕ) (bytes : Bytes image)
   begins-too k at first = first
   begins-too k at (next m a size i p e) = next m a size i (begins-too m a p) (reads-again image a bytes i size e .back w (alike m a i size p e))
 
-  pub name-same : (k : ℕ) (i : Inst) → ReadAt image k i → SameName image w i
-  name-same k i r = reads-again image (r .at) bytes i (r .size) (r .is) .named w (alike k (r .at) i (r .size) (r .begins) (r .is))
+  pub names-alike : (k : ℕ) (i : Inst) → ReadAt image k i → SameName image w i
+  names-alike k i r = reads-again image (r .at) bytes i (r .size) (r .is) .named w (alike k (r .at) i (r .size) (r .begins) (r .is))
 
   -- ---- scans
 
-  abbrev Known : Scan → Type 0
-  Known s = Listed image s × SameNames image w (drop 1 (s .labels))
+  abbrev Followed : Scan → Type 0
+  Followed s = ReadSoFar image s × SameNames image w (drop 1 (s .labels))
 
   unfoldable NamesScanned : Scanned → Type 0
   NamesScanned (stops n) = Unit {0}
@@ -86,23 +86,23 @@ module _ (image w : List ℕ) (bytes : Bytes image)
       subst NamesScanned q
       (one-case NamesScanned s i size tt tt (λ _ _. names-linked image w i (length (s .insts)) (s .labels) h e) (λ _. h))
 
-  known-next : (s t : Scan) → Step image s t → Known s → Known t
-  known-next s t q h =
+  followed-next : (s t : Scan) → ReadsOne image s t → Followed s → Followed t
+  followed-next s t q h =
       let i = q .inst in
       let r : ReadAt image (length (s .insts)) i = record { at = s .at; size = q .size; begins = h .0 .ends; is = q .is } in
-      (step-listed image s t q (h .0), names-one s t i (q .size) (h .1) (name-same _ i r) (q .goes-on))
+      (step-listed image s t q (h .0), names-one s t i (q .size) (h .1) (names-alike _ i r) (q .goes-on))
 
-  begin-known : Known begin
+  begin-followed : Followed begin
   unfolding SameNames
-  begin-known = (begin-listed image, tt)
+  begin-followed = (begin-listed image, tt)
 
-  known : (u : Scan) → Scans image begin u → Known u
-  known u r = along image Known known-next begin u r begin-known
+  followed : (u : Scan) → Scans image begin u → Followed u
+  followed u r = along image Followed followed-next begin u r begin-followed
 
   pub last-too : (u : Scan) (wanted : List ℕ) → Scans image begin u → lastOf w wanted noEntry (drop 1 (u .labels)) ≡ lastOf image wanted noEntry (drop 1 (u .labels))
-  last-too u wanted r = last-same image w wanted noEntry _ (known u r .1)
+  last-too u wanted r = last-same image w wanted noEntry _ (followed u r .1)
 
-  step-too : (s t : Scan) → Known s → Step image s t → Step w s t
+  step-too : (s t : Scan) → Followed s → ReadsOne image s t → ReadsOne w s t
   step-too s t h q =
       let a = alike (length (s .insts)) (s .at) (q .inst) (q .size) (h .0 .ends) (q .is) in
       let m = read-in image (s .at) (q .inst) (q .size) (q .is) .moves in
@@ -114,9 +114,9 @@ module _ (image w : List ℕ) (bytes : Bytes image)
         goes-on = q .goes-on;
       }
 
-  scans-from : (s u : Scan) → Known s → Scans image s u → Scans w s u
+  scans-from : (s u : Scan) → Followed s → Scans image s u → Scans w s u
   scans-from s u h (done _) = done s
-  scans-from s u h (more _ t _ q r) = more s t u (step-too s t h q) (scans-from t u (known-next s t q h) r)
+  scans-from s u h (more _ t _ q r) = more s t u (step-too s t h q) (scans-from t u (followed-next s t q h) r)
 
   pub scans-too : (u : Scan) → Scans image begin u → Scans w begin u
-  scans-too u r = scans-from begin u begin-known r
+  scans-too u r = scans-from begin u begin-followed r

@@ -53,7 +53,7 @@ pub front : (written out : List ℕ) → length written ≤ length out → take 
 front written out h = rw (le-leb (length written) (length out) h) (take-append-seam written (drop (length written) out))
 
 -- by the definitions, where the table's bytes are those of a load of l
-pub encodes : (image insts′ : List ℕ) (is : List Inst) (l : Loaded) (count : ℕ) (written : List ℕ) → instsOf insts′ ≡ instsAfter (accepts l) is → count ≡ countOf l
+encodes : (image insts′ : List ℕ) (is : List Inst) (l : Loaded) (count : ℕ) (written : List ℕ) → instsOf insts′ ≡ instsAfter (accepts l) is → count ≡ countOf l
     → Writes image is l written → Encodes image insts′ count written
 encodes image insts′ is l count written e n w =
     record {

@@ -1,4 +1,4 @@
--- How an image ends: its last instruction is HALT exactly where none is appended, and what is written has it either way. Assumes nothing.
+-- How an image ends: its last instruction is HALT exactly where none is appended, and what the appended one is written and read as. Assumes nothing.
 use Prim.Native.Nat.{ℕ, zero, suc, _+_, _<_}
 use mathlib.Core.Path.{_≡_, refl, ap, sym, _∙_}
 use mathlib.Core.Logic.{_⊎_, inl, inr}
@@ -21,7 +21,7 @@ use Rattle.machine.specs.Load.{isHalt, halt, Scan, goes, scanOne, lastIsHalt, c
 use Rattle.machine.specs.Encode.{bytesOfAll}
 use Rattle.rewritten.specs.Rewritten.{next, EndsWithHalt}
 use Rattle.rewritten.proofs.Instructions.{reads-again, reads-by, writtenByte}
-use Rattle.rewritten.proofs.Places.{one-reading, one-place, Listed}
+use Rattle.rewritten.proofs.Places.{one-reading, one-place, ReadSoFar}
 use Rattle.rewritten.proofs.Scans.{Scans, done, more}
 use Rattle.rewritten.proofs.Written.{number-at-end, inst-is, bytes-append}
 
@@ -60,7 +60,7 @@ halt-read image at i size bytes e h =
     let a = reads-again image at bytes i size e .written .bytes-are 0 (r .moves) in
     type-69 (getD image at 0) (sym a ∙ eqb-true (i .typ) 69 h)
 
-module _ (image : List ℕ) (bytes : Bytes image) (s : Scan) (listed : Listed image s) (to-end : s .at ≡ length image) where
+module _ (image : List ℕ) (bytes : Bytes image) (s : Scan) (listed : ReadSoFar image s) (to-end : s .at ≡ length image) where
   pub ends-with : lastIsHalt (s .insts) ≡ true → EndsWithHalt image
   ends-with e =
       let z = some-last (s .insts) e in

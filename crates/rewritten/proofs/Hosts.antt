@@ -3,31 +3,29 @@ use Prim.Native.Nat.{ℕ}
 use mathlib.Core.Path.{_≡_, refl, ap, sym, _∙_}
 use mathlib.Core.Bool.{Bool, true, false, cond}
 use mathlib.Core.List.{List}
-use native.Mathlib.Omega.{arith}
-use lib.Dec.{eqb, leb}
+use lib.Dec.{leb}
 use lib.ListN.{length, take}
 use borrow.Author.Tests.{eq-eqb}
 use Rattle.inst.specs.declared.Inst.{Inst}
-use Rattle.inst.specs.Records.{Bytes}
-use Rattle.machine.specs.declared.Label.{Label}
-use Rattle.machine.specs.Load.{Loaded, Load, rejects, accepts, instsAfter, countOf}
+use Rattle.machine.specs.Load.{Loaded, Load, accepts, instsAfter, countOf}
 use Rattle.machine.specs.Encode.{unencoded, encoded}
-use Rattle.machine.proofs.Refusals.{Numbered, load-numbered}
 use Rattle.tables.specs.Tables.{instsOf, labelsOf}
 use Rattle.loader.specs.Loading.{loadOf, instsLeft}
 use Rattle.loader.proofs.Left.{insts-left}
 use Rattle.machine_bytes.specs.Layout.{machineSize}
 use Rattle.mm_host.specs.Calls as host
+use Rattle.mm_host.proofs.Accepted as host-accepted
 use Rattle.label_loader.specs.Loading as records
+use Rattle.label_loader.proofs.Accepted as record-accepted
 use Rattle.rewritten.specs.Rewritten.{writtenInto, Writes, Rewritten}
-use Rattle.rewritten.specs.Host.{HostEncodes, HostWritten, HostRewritten, HostCallsAreRewritten, RecordsRewritten, RecordCallsAreRewritten}
+use Rattle.rewritten.specs.Host.{HostEncodes, HostWritten, HostCallsAreRewritten, RecordCallsAreRewritten}
 use Rattle.rewritten.proofs.Calls.{front}
 use Rattle.rewritten.proofs.Whole.{images-are-rewritten}
 
 -- ---- an encoding
 
-numbers-by : (b : Bool) (n : ℕ) → (host.numbersOf (cond b (encoded n) (unencoded 10)) .number ≡ cond b 0 10) × (host.numbersOf (cond b (encoded n) (unencoded 10)) .size ≡ cond b n 0)
-unfolding host.numbersOf
+numbers-by : (b : Bool) (n : ℕ) → (host.encodedNumbers (cond b (encoded n) (unencoded 10)) .number ≡ cond b 0 10) × (host.encodedNumbers (cond b (encoded n) (unencoded 10)) .size ≡ cond b n 0)
+unfolding host.encodedNumbers
 numbers-by true n = (refl, refl)
 numbers-by false n = (refl, refl)
 
@@ -42,7 +40,7 @@ module _ (image insts′ : List ℕ) (is : List Inst) (l : Loaded) (count : ℕ)
       rw (e, n, w .output-is out, w .answer-is out, q .0, q .1)
 
   host-encodes : HostEncodes image insts′ count written
-  unfolding host.sizeCall host.numbersOf
+  unfolding host.sizeCall host.encodedNumbers
   host-encodes =
       record {
         asks = rw (e, n, w .size-is);
@@ -59,53 +57,39 @@ host-written image insts insts′ l count w i n =
       encodes-again = λ insts₂ h s. host-encodes (w .written) (instsLeft (accepts l) insts₂) (instsOf insts₂) l count (w .written) (insts-left (accepts l) insts₂) n (w .writes-again s (instsOf insts₂) h);
     }
 
--- ---- a load that answers 0 accepted the image
+-- ---- a load that answers 0, and one more
 
 load-is : (image insts labels machine : List ℕ) (x : Load) → length machine ≡ machineSize → loadOf image insts labels ≡ x
     → host.loadCall image insts labels machine ≡ host.loadedBy x insts labels machine
 unfolding host.loadCall
 load-is image insts labels machine x m e = rw (eq-eqb (length machine) machineSize m, e)
 
-module _ (image insts labels machine : List ℕ) (r : host.LoadCall) (bytes : Bytes image) where
-  by-load : (x : Load) → loadOf image insts labels ≡ x → Numbered x → host.loadedBy x insts labels machine ≡ r → r .number ≡ 0 → HostRewritten image insts labels machine r
-  unfolding host.loadedBy host-written
-  by-load (rejects n) e h q z = absurd (omega (arith, ap (λ (c : host.LoadCall). c .number) q))
-  by-load (accepts l) e h q z =
-      let w = images-are-rewritten image (instsOf insts) (labelsOf labels) l bytes e in
-      record {
-        loaded = l;
-        accepted = e;
-        loads = sym q;
-        wrote = host-written image insts (r .insts) l (r .count) w (sym (ap (λ (c : host.LoadCall). c .insts) q)) (sym (ap (λ (c : host.LoadCall). c .count) q));
-        loads-again = λ insts₂ labels₂ machine₂ i k m. load-is (w .written) insts₂ labels₂ machine₂ _ m (w .loads-again (instsOf insts₂) (labelsOf labels₂) i k);
-      }
-
-  by-size : (b : Bool) → cond b (host.loadedBy (loadOf image insts labels) insts labels machine) (host.notLoaded host.noMachine insts labels machine) ≡ r → r .number ≡ 0
-      → HostRewritten image insts labels machine r
-  by-size true q z = by-load (loadOf image insts labels) refl (load-numbered image (instsOf insts) (labelsOf labels)) q z
-  by-size false q z = absurd (omega (arith, ap (λ (c : host.LoadCall). c .number) q))
-
 pub host-calls-are-rewritten : HostCallsAreRewritten
-unfolding host.loadCall
-host-calls-are-rewritten image insts labels machine r bytes q z = by-size image insts labels machine r bytes (eqb (length machine) machineSize) q z
-
--- and by records
-
-module _ (image insts : List ℕ) (labels : List Label) (r : records.LoadCall) (bytes : Bytes image) where
-  by-records : (x : Load) → records.loadOf image insts labels ≡ x → Numbered x → records.loadedBy x insts labels ≡ r → r .number ≡ 0 → RecordsRewritten image insts labels r
-  unfolding records.loadedBy records.loadCall host-written
-  by-records (rejects n) e h q z = absurd (omega (arith, ap (λ (c : records.LoadCall). c .number) q))
-  by-records (accepts l) e h q z =
-      let w = images-are-rewritten image (instsOf insts) labels l bytes e in
-      record {
-        loaded = l;
-        accepted = e;
-        loads = sym q;
-        wrote = host-written image insts (r .insts) l (r .count) w (sym (ap (λ (c : records.LoadCall). c .insts) q)) (sym (ap (λ (c : records.LoadCall). c .count) q));
-        loads-again = λ insts₂ labels₂ i k. ap (λ (x : Load). records.loadedBy x insts₂ labels₂) (w .loads-again (instsOf insts₂) labels₂ i k);
-      }
+unfolding host.loadedBy host-written
+host-calls-are-rewritten image insts labels machine r bytes e z =
+    let x = host-accepted.load-accepted image insts labels machine r e z in
+    let l = x .0 in
+    let q = x .2 in
+    let w = images-are-rewritten image (instsOf insts) (labelsOf labels) l bytes (x .1) in
+    record {
+      loaded = l;
+      accepted = x .1;
+      leaves = sym q;
+      wrote = host-written image insts (r .insts) l (r .count) w (sym (ap (λ (c : host.LoadCall). c .insts) q)) (sym (ap (λ (c : host.LoadCall). c .count) q));
+      loads-again = λ insts₂ labels₂ machine₂ i k m. load-is (w .written) insts₂ labels₂ machine₂ _ m (w .loads-again (instsOf insts₂) (labelsOf labels₂) i k);
+    }
 
 pub record-calls-are-rewritten : RecordCallsAreRewritten
-unfolding records.loadCall
-record-calls-are-rewritten image insts labels r bytes q z =
-    by-records image insts labels r bytes (records.loadOf image insts labels) refl (load-numbered image (instsOf insts) labels) q z
+unfolding records.loadedBy records.loadCall host-written
+record-calls-are-rewritten image insts labels r bytes e z =
+    let x = record-accepted.load-accepted image insts labels r e z in
+    let l = x .0 in
+    let q = x .2 in
+    let w = images-are-rewritten image (instsOf insts) labels l bytes (x .1) in
+    record {
+      loaded = l;
+      accepted = x .1;
+      leaves = sym q;
+      wrote = host-written image insts (r .insts) l (r .count) w (sym (ap (λ (c : records.LoadCall). c .insts) q)) (sym (ap (λ (c : records.LoadCall). c .count) q));
+      loads-again = λ insts₂ labels₂ i k. ap (λ (x : Load). records.loadedBy x insts₂ labels₂) (w .loads-again (instsOf insts₂) labels₂ i k);
+    }

@@ -25,7 +25,7 @@ use Rattle.rewritten.proofs.Numbers.{eight-back, low-six, low-six-small
 slice-at : (l : List ℕ) (a n k : ℕ) → k < n → getD (slice a (a + n) l) k 0 ≡ getD l (a + k) 0
 slice-at l a n k h = getD-drop a (take (a + n) l) k 0 ∙ getD-take (a + n) l (a + k) 0 (omega arith)
 
-pub slice-alike : (l m : List ℕ) (a n : ℕ) → a + n ≤ length l → a + n ≤ length m → ((k : ℕ) → k < n → getD l (a + k) 0 ≡ getD m (a + k) 0) → slice a (a + n) l ≡ slice a (a + n) m
+slice-alike : (l m : List ℕ) (a n : ℕ) → a + n ≤ length l → a + n ≤ length m → ((k : ℕ) → k < n → getD l (a + k) 0 ≡ getD m (a + k) 0) → slice a (a + n) l ≡ slice a (a + n) m
 slice-alike l m a n h g f =
     let p : length (slice a (a + n) l) ≡ n = length-slice a (a + n) l h ∙ omega arith in
     let q : length (slice a (a + n) m) ≡ n = length-slice a (a + n) m g ∙ omega arith in
@@ -90,7 +90,7 @@ pub record ReadsAgain (image : List ℕ) (at : ℕ) (i : Inst) (size : ℕ) : Ty
   pub back : (w : List ℕ) → Alike image w at size → fromBytes w at ≡ reads i size
   pub named : (w : List ℕ) → Alike image w at size → part w (i .start) (i .len) ≡ part image (i .start) (i .len)
 
-abbrev pub Again : List ℕ → ℕ → Answer → Type 0
+abbrev Again : List ℕ → ℕ → Answer → Type 0
 Again image at (refused n) = Unit {0}
 Again image at (reads i size) = ReadsAgain image at i size
 

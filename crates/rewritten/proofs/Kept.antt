@@ -21,7 +21,7 @@ use Rattle.machine.specs.Load.{halt, Scan, begin}
 use Rattle.machine.specs.Encode.{bytesOfAll}
 use Rattle.rewritten.specs.Rewritten.{Begins, Changes, dump, high-byte, BytesKept}
 use Rattle.rewritten.proofs.Instructions.{isName, writtenByte, first-byte, zero-byte, Alike, reads-again}
-use Rattle.rewritten.proofs.Places.{one-place, one-adds, ReadAt, Listed}
+use Rattle.rewritten.proofs.Places.{one-place, one-adds, ReadAt, ReadSoFar}
 use Rattle.rewritten.proofs.Scans.{Scans, done, more, listed, begin-listed, step-listed}
 use Rattle.rewritten.proofs.Written.{number-below}
 
@@ -68,11 +68,11 @@ nine : (image : List ℕ) (at : ℕ) (i : Inst) (size : ℕ) → formOf (getD im
 unfolding fromBytes readOperand readName
 nine image at i size f e =
     let op = getD image at 0 in
-    let field = magnitude (word image (at + 1)) in
+    let len = magnitude (word image (at + 1)) in
     let named : NineAtLeast (readName image at op (word image (at + 1))) =
     by-test NineAtLeast (isNegative (word image (at + 1))) _ _ (λ _. tt)
-    (λ _. by-test NineAtLeast (ltb (length image) (at + 9 + field)) _ _ (λ _. tt)
-    (λ _. by-test NineAtLeast (nameOk (part image (at + 9) field)) _ _ (λ _. omega arith) (λ _. tt))) in
+    (λ _. by-test NineAtLeast (ltb (length image) (at + 9 + len)) _ _ (λ _. tt)
+    (λ _. by-test NineAtLeast (nameOk (part image (at + 9) len)) _ _ (λ _. omega arith) (λ _. tt))) in
     subst NineAtLeast e
     (by-test NineAtLeast (leb (length image) at) _ _ (λ _. tt)
     (λ _. rw f (by-test NineAtLeast (ltb (length image) (at + 9)) _ _ (λ _. tt) (λ _. named))))
@@ -121,7 +121,7 @@ record Covered (image : List ℕ) (k : ℕ) : Type 0 where
   before : at ≤ k
   behind : k < at + size
 
-covered : (image : List ℕ) (k : ℕ) (s u : Scan) → Scans image s u → Listed image s → s .at ≤ k → k < u .at → Covered image k
+covered : (image : List ℕ) (k : ℕ) (s u : Scan) → Scans image s u → ReadSoFar image s → s .at ≤ k → k < u .at → Covered image k
 covered image k s u (done _) l h g = absurd (omega arith)
 covered image k s u (more _ t _ q r) l h g = by (λ z. covered image k t u r (step-listed image s t q l) z g) (ltb k (t .at)) refl
   where
@@ -151,7 +151,7 @@ module _ (image w : List ℕ) (bytes : Bytes image) (s : Scan) (r : Scans image 
   read-here : (n at : ℕ) → Begins image n at → at < length image → (i : Inst) × (size : ℕ) × (fromBytes image at ≡ reads i size)
   read-here n at p h = by (eq-or-lt-of-le (number-below image bytes s l to-end n at p))
     where
-      l : Listed image s
+      l : ReadSoFar image s
       l = listed image s r
 
       by : (n ≡ length (s .insts)) ⊎ (n < length (s .insts)) → (i : Inst) × (size : ℕ) × (fromBytes image at ≡ reads i size)

@@ -6,7 +6,7 @@ mod Written
 mod Again
 mod Ends
 mod Kept
-mod Encodes
+mod Answers
 mod Whole
 mod Calls
 mod Hosts

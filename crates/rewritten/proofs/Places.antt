@@ -72,7 +72,7 @@ one-adds s i size t e =
     (one-case (AddsScanned s i size) s i size tt tt (λ _ _. record { at-is = refl; insts-are = refl }) (λ _. record { at-is = refl; insts-are = refl }))
 
 -- the instructions so far are the image's, each at its place
-pub record Listed (image : List ℕ) (s : Scan) : Type 0 where
+pub record ReadSoFar (image : List ℕ) (s : Scan) : Type 0 where
   pub ends : Begins image (length (s .insts)) (s .at)
   pub each : (k : ℕ) → k < length (s .insts) → ReadAt image k (getD (s .insts) k halt)
 
@@ -85,7 +85,7 @@ module _ (image : List ℕ) where
       let q : length is ≡ k = omega (arith, ltb-false k (length is) z) in
       rw (getD-at is i [] halt k q) (record { at = at; size = size; begins = rw (← q) p; is = e })
 
-  pub listed-next : (s t : Scan) (i : Inst) (size : ℕ) → Listed image s → fromBytes image (s .at) ≡ reads i size → Adds s i size t → Listed image t
+  pub listed-next : (s t : Scan) (i : Inst) (size : ℕ) → ReadSoFar image s → fromBytes image (s .at) ≡ reads i size → Adds s i size t → ReadSoFar image t
   listed-next s t i size l e a =
       let n : length (t .insts) ≡ suc (length (s .insts)) = ap length (a .insts-are) ∙ length-append (s .insts) (i ∷ []) ∙ add-one (length (s .insts)) in
       record {

@@ -1,4 +1,4 @@
--- A scan as the list of its steps, without a bound, and the same steps over another image. Assumes nothing.
+-- A scan as the list of what it reads, without a bound, and back to one with a bound. Assumes nothing.
 use Prim.Native.Nat.{ℕ, zero, suc, _+_, _<_, _≤_}
 use mathlib.Core.Path.{_≡_, refl, ap, _∙_, subst}
 use mathlib.Core.Bool.{Bool, true, false, cond}
@@ -12,10 +12,10 @@ use Rattle.inst_decode.specs.Decode.{Answer, refused, reads, fromBytes}
 use Rattle.inst_decode.proofs.Facts.{read-in}
 use Rattle.machine.specs.Load.{Scan, Scanned, stops, goes, begin, scanOne, andThen, scan}
 use Rattle.rewritten.specs.Rewritten.{first}
-use Rattle.rewritten.proofs.Places.{one-adds, Listed, listed-next}
+use Rattle.rewritten.proofs.Places.{one-adds, ReadSoFar, listed-next}
 
--- from s to t by the instruction i
-pub record Step (image : List ℕ) (s t : Scan) : Type 0 where
+-- from s to t by one instruction
+pub record ReadsOne (image : List ℕ) (s t : Scan) : Type 0 where
   pub inst : Inst
   pub size : ℕ
   pub inside : s .at < length image
@@ -24,7 +24,7 @@ pub record Step (image : List ℕ) (s t : Scan) : Type 0 where
 
 pub data Scans (image : List ℕ) : Scan → Scan → Type 0 where
   done : (s : Scan) → Scans image s s
-  more : (s t u : Scan) → Step image s t → Scans image t u → Scans image s u
+  more : (s t u : Scan) → ReadsOne image s t → Scans image t u → Scans image s u
 
 abbrev scanIn : Scanned → Scan
 scanIn (stops n) = begin
@@ -54,24 +54,24 @@ module _ (image : List ℕ) where
   scans (suc fuel) s u e = scans-by (scan fuel image) s u (λ t. scans fuel t u) (ltb (s .at) (length image)) refl e
 
   -- what each step keeps
-  pub along : (P : Scan → Type 0) → ((s t : Scan) → Step image s t → P s → P t) → (s u : Scan) → Scans image s u → P s → P u
+  pub along : (P : Scan → Type 0) → ((s t : Scan) → ReadsOne image s t → P s → P t) → (s u : Scan) → Scans image s u → P s → P u
   along P f s u (done _) p = p
   along P f s u (more _ t _ q r) p = along P f t u r (f s t q p)
 
-  pub begin-listed : Listed image begin
+  pub begin-listed : ReadSoFar image begin
   begin-listed = record { ends = first; each = λ k h. absurd (omega arith) }
 
-  pub step-listed : (s t : Scan) → Step image s t → Listed image s → Listed image t
+  pub step-listed : (s t : Scan) → ReadsOne image s t → ReadSoFar image s → ReadSoFar image t
   step-listed s t q l = listed-next image s t (q .inst) (q .size) l (q .is) (one-adds s (q .inst) (q .size) t (q .goes-on))
 
-  pub listed : (u : Scan) → Scans image begin u → Listed image u
-  listed u r = along (Listed image) step-listed begin u r begin-listed
+  pub listed : (u : Scan) → Scans image begin u → ReadSoFar image u
+  listed u r = along (ReadSoFar image) step-listed begin u r begin-listed
 
   pub joined : (s t u : Scan) → Scans image s t → Scans image t u → Scans image s u
   joined s t u (done _) r = r
   joined s t u (more _ v _ q p) r = more s v u q (joined v t u p r)
 
-  step-is : (fuel : ℕ) (s t : Scan) → Step image s t → scan (suc fuel) image s ≡ scan fuel image t
+  step-is : (fuel : ℕ) (s t : Scan) → ReadsOne image s t → scan (suc fuel) image s ≡ scan fuel image t
   unfolding scan andThen
   step-is fuel s t q = rw (lt-ltb (s .at) (length image) (q .inside), q .is, q .goes-on)
 
@@ -81,10 +81,10 @@ module _ (image : List ℕ) where
   stays (suc fuel) s h = rw (le-ltb (s .at) (length image) h)
 
   -- a scan to the last byte is one with a bound of as many bytes as are left
-  pub scan-is : (s u : Scan) → Scans image s u → length image ≤ u .at → (fuel : ℕ) → length image ≤ s .at + fuel → scan fuel image s ≡ goes u
-  scan-is s u (done _) e fuel h = stays fuel s e
-  scan-is s u (more _ t _ q r) e zero h = absurd (omega (arith, q .inside))
-  scan-is s u (more _ t _ q r) e (suc fuel) h =
+  pub scan-to-end : (s u : Scan) → Scans image s u → length image ≤ u .at → (fuel : ℕ) → length image ≤ s .at + fuel → scan fuel image s ≡ goes u
+  scan-to-end s u (done _) e fuel h = stays fuel s e
+  scan-to-end s u (more _ t _ q r) e zero h = absurd (omega (arith, q .inside))
+  scan-to-end s u (more _ t _ q r) e (suc fuel) h =
       let a = one-adds s (q .inst) (q .size) t (q .goes-on) in
       let m = read-in image (s .at) (q .inst) (q .size) (q .is) .moves in
-      step-is fuel s t q ∙ scan-is t u r e fuel (omega (arith, a .at-is))
+      step-is fuel s t q ∙ scan-to-end t u r e fuel (omega (arith, a .at-is))

@@ -26,13 +26,13 @@ use Rattle.machine.proofs.Fuel.{reads-to-end}
 use Rattle.machine.proofs.Valid.{valid, closed-halts}
 use Rattle.rewritten.specs.Rewritten.{Begins, EndsWithHalt, RoomIs, own-length, one-more, RecordsAre, SameName, loadedAgain, Rewritten, ImagesAreRewritten}
 use Rattle.rewritten.proofs.Instructions.{Alike, first-byte, nameless}
-use Rattle.rewritten.proofs.Places.{begins-inside, Listed}
-use Rattle.rewritten.proofs.Scans.{Scans, scans, scan-is, listed, joined}
+use Rattle.rewritten.proofs.Places.{begins-inside, ReadSoFar}
+use Rattle.rewritten.proofs.Scans.{Scans, scans, scan-to-end, listed, joined}
 use Rattle.rewritten.proofs.Written.{number-at-end, inst-is, size-is, alike}
-use Rattle.rewritten.proofs.Again.{bytes-same, begins-too, name-same, last-too, scans-too}
+use Rattle.rewritten.proofs.Again.{bytes-same, begins-too, names-alike, last-too, scans-too}
 use Rattle.rewritten.proofs.Ends.{reads-halt, ends-with, last-halts, Tail, tail-of, appended, halt-bytes, closing, takes-halt}
 use Rattle.rewritten.proofs.Kept.{inst-bytes, all-bytes, bytes-kept}
-use Rattle.rewritten.proofs.Encodes.{writes}
+use Rattle.rewritten.proofs.Answers.{writes}
 
 type-halt : (op : ℕ) → op ≡ 69 → typeOf op ≡ 69
 unfolding typeOf
@@ -68,7 +68,7 @@ module _ (image : List ℕ) (bytes : Bytes image) (l : Loaded) (p : Parsed image
   r : Scans image begin s
   r = scans image (length image) begin s (p .scanned)
 
-  ls : Listed image s
+  ls : ReadSoFar image s
   ls = listed image s r
 
   to-end : s .at ≡ length image
@@ -192,7 +192,7 @@ module _ (image : List ℕ) (bytes : Bytes image) (l : Loaded) (p : Parsed image
       let x = scans-again in
       let v = x .0 in
       let f = p .passes in
-      let z = scan-is w begin v (x .1) (omega (arith, x .2)) (length w) (omega arith) in
+      let z = scan-to-end w begin v (x .1) (omega (arith, x .2)) (length w) (omega arith) in
       let start : lastOf w startName noEntry (drop 1 (v .labels)) ≡ entry (l .ip) =
       ap (λ (d : List Label). lastOf w startName noEntry (drop 1 d)) (x .4) ∙ last-too image w bytes same s startName r ∙ f .start in
       let is-closed : l .insts ≡ closed (v .insts) = f .insts-are ∙ sym (closed-again is) ∙ ap closed (closed-is ∙ sym (x .3)) in
@@ -206,7 +206,7 @@ module _ (image : List ℕ) (bytes : Bytes image) (l : Loaded) (p : Parsed image
       by : (b : Bool) → ltb k (length is) ≡ b → SameName image w (getD (is ++ t) k halt)
       by true e =
           let h = ltb-true k (length is) e in
-          subst (SameName image w) (sym (List·getD-append is t halt k h)) (name-same image w bytes same k _ (ls .each k h))
+          subst (SameName image w) (sym (List·getD-append is t halt k h)) (names-alike image w bytes same k _ (ls .each k h))
       by false e = subst (SameName image w) (sym (tail-halts is t k tail (ltb-false k (length is) e))) (nameless image 0 bytes w)
 
   labels-too : (name : List ℕ) (k : ℕ) → Labels image name (getD (is ++ t) k halt) → Labels w name (getD (is ++ t) k halt)
@@ -256,7 +256,7 @@ module _ (image : List ℕ) (bytes : Bytes image) (l : Loaded) (p : Parsed image
         subst (λ (x : List Inst). DefinesLast w x startName (l .ip)) (sym insts-are)
         (start-too (l .ip) (subst (λ (x : List Inst). DefinesLast image x startName (l .ip)) insts-are (valid image l bytes accepted .start-is)))
 
-    pub rewritten : Rewritten image insts l
+    rewritten : Rewritten image insts l
     rewritten =
         record {
           written = w;

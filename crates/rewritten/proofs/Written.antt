@@ -15,7 +15,7 @@ use Rattle.machine.specs.Load.{halt, Scan}
 use Rattle.machine.specs.Encode.{bytesOfAll}
 use Rattle.rewritten.specs.Rewritten.{Begins, first, next}
 use Rattle.rewritten.proofs.Instructions.{Alike, reads-again}
-use Rattle.rewritten.proofs.Places.{one-reading, one-place, none-at-end, Listed}
+use Rattle.rewritten.proofs.Places.{one-reading, one-place, none-at-end, ReadSoFar}
 
 pub bytes-append : (image : List ℕ) (xs ys : List Inst) → bytesOfAll image (xs ++ ys) ≡ bytesOfAll image xs ++ bytesOfAll image ys
 unfolding bytesOfAll
@@ -31,7 +31,7 @@ module _ (w xs bs rest : List ℕ) (e : w ≡ xs ++ (bs ++ rest)) where
   middle-inside = rw (e, length-append, length-append) (omega arith)
 
 -- a scan to the last byte
-module _ (image : List ℕ) (bytes : Bytes image) (s : Scan) (listed : Listed image s) (to-end : s .at ≡ length image) where
+module _ (image : List ℕ) (bytes : Bytes image) (s : Scan) (listed : ReadSoFar image s) (to-end : s .at ≡ length image) where
   abbrev is : List Inst
   is = s .insts
 
@@ -62,7 +62,7 @@ module _ (image : List ℕ) (bytes : Bytes image) (s : Scan) (listed : Listed im
       (h, one-reading image (r .at) at (getD is k halt) i (r .size) size (one-place image k (r .at) at (r .begins) p) (r .is) e .0)
 
   -- a place is where the records before it are written up to
-  pub place-is : (k at : ℕ) → Begins image k at → at ≡ length (bytesOfAll image (take k is))
+  place-is : (k at : ℕ) → Begins image k at → at ≡ length (bytesOfAll image (take k is))
   unfolding bytesOfAll
   place-is k at first = refl
   place-is k at (next m a size i p e) =

@@ -36,7 +36,7 @@ pub record HostWritten (image insts insts′ : List ℕ) (count : ℕ) (l : Load
 pub record HostRewritten (image insts labels machine : List ℕ) (r : host.LoadCall) : Type 0 where
   pub loaded : Loaded
   pub accepted : loadOf image insts labels ≡ accepts loaded
-  pub loads : r ≡ host.loadedBy (accepts loaded) insts labels machine
+  pub leaves : r ≡ host.loadedBy (accepts loaded) insts labels machine
   pub wrote : HostWritten image insts (r .insts) (r .count) loaded
   pub loads-again : (insts₂ labels₂ machine₂ : List ℕ) → instLimit ≤ length (instsOf insts₂) → labelRecords ≤ length (labelsOf labels₂) → length machine₂ ≡ machineSize
       → host.loadCall (wrote .rewritten .written) insts₂ labels₂ machine₂ ≡ host.loadedBy (loadedAgain loaded (wrote .rewritten .written)) insts₂ labels₂ machine₂
@@ -53,7 +53,7 @@ HostCallsAreRewritten =
 pub record RecordsRewritten (image insts : List ℕ) (labels : List Label) (r : records.LoadCall) : Type 0 where
   pub loaded : Loaded
   pub accepted : records.loadOf image insts labels ≡ accepts loaded
-  pub loads : r ≡ records.loadedBy (accepts loaded) insts labels
+  pub leaves : r ≡ records.loadedBy (accepts loaded) insts labels
   pub wrote : HostWritten image insts (r .insts) (r .count) loaded
   pub loads-again : (insts₂ : List ℕ) (labels₂ : List Label) → instLimit ≤ length (instsOf insts₂) → labelRecords ≤ length labels₂
       → records.loadCall (wrote .rewritten .written) insts₂ labels₂ ≡ records.loadedBy (loadedAgain loaded (wrote .rewritten .written)) insts₂ labels₂

@@ -1,5 +1,5 @@
 -- `rewritten::rewritten_theorems` meets its contract. Assumes nothing.
-use Rattle.rewritten.proofs.Encodes.{asked-is-needed}
+use Rattle.rewritten.proofs.Answers.{asked-is-needed}
 use Rattle.rewritten.proofs.Whole.{images-are-rewritten}
 use Rattle.rewritten.proofs.rewritten_theorems.Statement.{statement}
 use Rattle.rewritten.proofs.rewritten_theorems.Tie as tie

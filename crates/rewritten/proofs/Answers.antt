@@ -1,4 +1,4 @@
--- The encoder's answers for a table as a load leaves it. Assumes nothing.
+-- The encoder's answers for a table as a load leaves it, and of every table: the room asked for is the room needed. Assumes nothing.
 use Prim.Native.Nat.{ℕ, _+_, _-_, _^_, _≤_}
 use mathlib.Core.Path.{_≡_, refl, ap, _∙_}
 use mathlib.Core.Bool.{Bool, true, false, cond}
@@ -11,7 +11,7 @@ use borrow.Author.Tests.{le-leb, lt-leb, leb-true, leb-false}
 use Rattle.inst.specs.declared.Inst.{Inst}
 use Rattle.machine.specs.Load.{Loaded, accepts, instsAfter, countOf}
 use Rattle.machine.specs.Encode.{allWellFormed, bytesOfAll, Encoded, encoded, unencoded, sizeOf, inRoom, encode, encodedSize, outputAfter}
-use Rattle.machine.proofs.Loads.{filled}
+use Rattle.machine.proofs.Lists.{filled}
 use Rattle.rewritten.specs.Rewritten.{Writes, AskedIsNeeded}
 
 module _ (image : List ℕ) (insts : List Inst) (l : Loaded) (written : List ℕ) (well : allWellFormed image (l .insts) ≡ true) (fits : countOf l ≤ length insts)
