@@ -11,7 +11,7 @@ use lib.Dec.{T, leb, eqb, lit<}
 use Rattle.binary64.proofs.Unbounded.{lt_or_ge, carried}
 use Rattle.binary64.proofs.Bounded.{units_le}
 use Rattle.binary64.specs.Rounding.{apart, units, NearestEven}
-use Rattle.binary64.specs.Binary64.{infinity, is_nan, notANumber, infinite, finite, value, with_sign}
+use Rattle.binary64.specs.Binary64.{infinity, is_nan, not_a_number, infinite, finite, value, with_sign}
 
 -- ---- nothing is nearer than the value itself, and nothing else as near
 module _ (w top n den p : ℕ) (D : 0 < den) (H : p ≤ top) (E : n ≡ units w p * den) where
@@ -55,7 +55,7 @@ module _ (d : ℕ) (s : Bool) (u : ℕ) (H : d < 2 ^ 64) where
   no : true ≡ false → Encoded d s u
   no q = absurd (subst T q tt)
 
-  by_tests : (x y : Bool) → is_nan d ≡ x → eqb m infinity ≡ y → cond x notANumber (cond y (infinite t) (finite t (units 52 m))) ≡ finite s u → Encoded d s u
+  by_tests : (x y : Bool) → is_nan d ≡ x → eqb m infinity ≡ y → cond x not_a_number (cond y (infinite t) (finite t (units 52 m))) ≡ finite s u → Encoded d s u
   by_tests true y f g q = no cc
   by_tests false true f g q = no cc
   by_tests false false f g q =

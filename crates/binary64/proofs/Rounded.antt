@@ -79,25 +79,25 @@ unfolding round_pattern count
 zero_pattern = refl
 
 -- of unlike signs: the magnitudes are equal, and neither is the larger
-unlike-zero : (s t : Bool) (u v : ℕ) (x : Bool) → ltb u v ≡ x → (cond x (exactly t (v - u) 1) (exactly (s && ltb v u) (u - v) 1)).numerator ≡ 0
+unlike_zero : (s t : Bool) (u v : ℕ) (x : Bool) → ltb u v ≡ x → (cond x (exactly t (v - u) 1) (exactly (s && ltb v u) (u - v) 1)).numerator ≡ 0
     → rounded (cond x (exactly t (v - u) 1) (exactly (s && ltb v u) (u - v) 1)) ≡ 0
-unlike-zero s t u v true h e = absurd (omega (arith, ltb-true u v h))
-unlike-zero s t u v false h e = let l : u ≤ v = omega arith in simp (le-ltb v u l, and-false, e, zero_pattern)
+unlike_zero s t u v true h e = absurd (omega (arith, ltb-true u v h))
+unlike_zero s t u v false h e = let l : u ≤ v = omega arith in simp (le-ltb v u l, and-false, e, zero_pattern)
 
 -- the sign of an exact sum of 0, by the operands' signs
-zero-signed : (s : Bool) (u : ℕ) (t : Bool) (v : ℕ) → (exact_sum s u t v).numerator ≡ 0 → rounded (exact_sum s u t v) ≡ with_sign (s && t) 0
-zero-signed true u true v e = simp (e, zero_pattern)
-zero-signed false u false v e = simp (e, zero_pattern)
-zero-signed true u false v e = unlike-zero true false u v (ltb u v) refl e
-zero-signed false u true v e = unlike-zero false true u v (ltb u v) refl e
+zero_signed : (s : Bool) (u : ℕ) (t : Bool) (v : ℕ) → (exact_sum s u t v).numerator ≡ 0 → rounded (exact_sum s u t v) ≡ with_sign (s && t) 0
+zero_signed true u true v e = simp (e, zero_pattern)
+zero_signed false u false v e = simp (e, zero_pattern)
+zero_signed true u false v e = unlike_zero true false u v (ltb u v) refl e
+zero_signed false u true v e = unlike_zero false true u v (ltb u v) refl e
 
-zero-sum : ZeroSumIsSigned
+zero_sum : ZeroSumIsSigned
 unfolding sum_bits sum
-zero-sum a b s u t v p q e = rw (p, q) (zero-signed s u t v e)
+zero_sum a b s u t v p q e = rw (p, q) (zero_signed s u t v e)
 
-zero-difference : ZeroDifferenceIsSigned
+zero_difference : ZeroDifferenceIsSigned
 unfolding difference_bits sum opposite
-zero-difference a b s u t v p q e = rw (p, q) (zero-signed s u (not t) v e)
+zero_difference a b s u t v p q e = rw (p, q) (zero_signed s u (not t) v e)
 
 difference-rounded : DifferenceIsRounded
 unfolding difference_bits sum opposite
@@ -133,9 +133,9 @@ theorems = record {
   overflows = overflows;
   exact = exact;
   sum = sum-rounded;
-  zero-sum = zero-sum;
+  zero_sum = zero_sum;
   difference = difference-rounded;
-  zero-difference = zero-difference;
+  zero_difference = zero_difference;
   product = product-rounded;
   quotient = quotient-rounded;
   special = special;

@@ -6,29 +6,29 @@ use native.Mathlib.Omega.{arith}
 use mathlib.Core.Bool.{Bool, true, false, not, beq, cond}
 use borrow.Author.Tests.{ne_eqb, ltb-true}
 use lib.Dec.{eqb}
-use Rattle.binary64.specs.Binary64.{infinity, quiet, is_nan, Value, notANumber, infinite, finite, value, with_sign, unlike, Exact, exact_sum, exact_product, exact_quotient, rounded, sum, opposite, product, quotient, sum_bits, difference_bits, product_bits, quotient_bits}
+use Rattle.binary64.specs.Binary64.{infinity, quiet, is_nan, Value, not_a_number, infinite, finite, value, with_sign, unlike, Exact, exact_sum, exact_product, exact_quotient, rounded, sum, opposite, product, quotient, sum_bits, difference_bits, product_bits, quotient_bits}
 use Rattle.binary64.specs.Rounding.{round_pattern}
 use Rattle.binary64.specs.Theorems.{SpecialCasesHold, NaNResultIsQuiet}
 
-pub nan_is : (a : ℕ) → is_nan a ≡ true → value a ≡ notANumber
+pub nan_is : (a : ℕ) → is_nan a ≡ true → value a ≡ not_a_number
 unfolding value
 nan_is a h = rw h
 
-pub sum_nan : (x : Value) → sum x notANumber ≡ quiet
+pub sum_nan : (x : Value) → sum x not_a_number ≡ quiet
 unfolding sum
-sum_nan notANumber = refl
+sum_nan not_a_number = refl
 sum_nan (infinite s) = refl
 sum_nan (finite s u) = refl
 
-pub product_nan : (x : Value) → product x notANumber ≡ quiet
+pub product_nan : (x : Value) → product x not_a_number ≡ quiet
 unfolding product
-product_nan notANumber = refl
+product_nan not_a_number = refl
 product_nan (infinite s) = refl
 product_nan (finite s u) = refl
 
-pub quotient_nan : (x : Value) → quotient x notANumber ≡ quiet
+pub quotient_nan : (x : Value) → quotient x not_a_number ≡ quiet
 unfolding quotient
-quotient_nan notANumber = refl
+quotient_nan not_a_number = refl
 quotient_nan (infinite s) = refl
 quotient_nan (finite s u) = refl
 
@@ -108,31 +108,31 @@ of_test false p q = q
 
 sum-quiet : (x y : Value) → NaNIsQuiet (sum x y)
 unfolding sum
-sum-quiet notANumber y = is_quiet
-sum-quiet (infinite s) notANumber = is_quiet
+sum-quiet not_a_number y = is_quiet
+sum-quiet (infinite s) not_a_number = is_quiet
 sum-quiet (infinite s) (infinite t) = of_test (beq s t) (of_infinity s) is_quiet
 sum-quiet (infinite s) (finite t v) = of_infinity s
-sum-quiet (finite s u) notANumber = is_quiet
+sum-quiet (finite s u) not_a_number = is_quiet
 sum-quiet (finite s u) (infinite t) = of_infinity t
 sum-quiet (finite s u) (finite t v) = of_rounded (exact_sum s u t v)
 
 product-quiet : (x y : Value) → NaNIsQuiet (product x y)
 unfolding product
-product-quiet notANumber y = is_quiet
-product-quiet (infinite s) notANumber = is_quiet
+product-quiet not_a_number y = is_quiet
+product-quiet (infinite s) not_a_number = is_quiet
 product-quiet (infinite s) (infinite t) = of_infinity (unlike s t)
 product-quiet (infinite s) (finite t v) = of_test (eqb v 0) is_quiet (of_infinity (unlike s t))
-product-quiet (finite s u) notANumber = is_quiet
+product-quiet (finite s u) not_a_number = is_quiet
 product-quiet (finite s u) (infinite t) = of_test (eqb u 0) is_quiet (of_infinity (unlike s t))
 product-quiet (finite s u) (finite t v) = of_rounded (exact_product s u t v)
 
 quotient-quiet : (x y : Value) → NaNIsQuiet (quotient x y)
 unfolding quotient
-quotient-quiet notANumber y = is_quiet
-quotient-quiet (infinite s) notANumber = is_quiet
+quotient-quiet not_a_number y = is_quiet
+quotient-quiet (infinite s) not_a_number = is_quiet
 quotient-quiet (infinite s) (infinite t) = is_quiet
 quotient-quiet (infinite s) (finite t v) = of_infinity (unlike s t)
-quotient-quiet (finite s u) notANumber = is_quiet
+quotient-quiet (finite s u) not_a_number = is_quiet
 quotient-quiet (finite s u) (infinite t) = up_to_infinity (unlike s t) 0 (omega arith)
 quotient-quiet (finite s u) (finite t v) = of_test (eqb v 0) (of_test (eqb u 0) is_quiet (of_infinity (unlike s t))) (of_rounded (exact_quotient s u t v))
 

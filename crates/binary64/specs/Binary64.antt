@@ -16,7 +16,7 @@ is_nan b = ltb infinity (b % 2 ^ 63)
 
 -- what a pattern stands for. `finite s u` is u * 2 ^ -1074, negative where s is true
 pub data Value : Type 0 where
-  notANumber : Value
+  not_a_number : Value
   infinite : Bool → Value
   finite : Bool → ℕ → Value
 
@@ -24,7 +24,7 @@ unfoldable pub value : ℕ → Value
 value b =
     let s = leb (2 ^ 63) b in
     let m = b % 2 ^ 63 in
-    cond (is_nan b) notANumber (cond (eqb m infinity) (infinite s) (finite s (units 52 m)))
+    cond (is_nan b) not_a_number (cond (eqb m infinity) (infinite s) (finite s (units 52 m)))
 
 -- the pattern with the sign s and the magnitude's pattern m
 abbrev pub with_sign : Bool → ℕ → ℕ
@@ -62,34 +62,34 @@ rounded e = with_sign e.sign (round_pattern 52 infinity e.numerator e.denominato
 
 -- ---- the operations, on values and on patterns
 unfoldable pub sum : Value → Value → ℕ
-sum notANumber y = quiet
-sum (infinite s) notANumber = quiet
+sum not_a_number y = quiet
+sum (infinite s) not_a_number = quiet
 sum (infinite s) (infinite t) = cond (beq s t) (with_sign s infinity) quiet
 sum (infinite s) (finite t v) = with_sign s infinity
-sum (finite s u) notANumber = quiet
+sum (finite s u) not_a_number = quiet
 sum (finite s u) (infinite t) = with_sign t infinity
 sum (finite s u) (finite t v) = rounded (exact_sum s u t v)
 
 unfoldable pub opposite : Value → Value
-opposite notANumber = notANumber
+opposite not_a_number = not_a_number
 opposite (infinite s) = infinite (not s)
 opposite (finite s u) = finite (not s) u
 
 unfoldable pub product : Value → Value → ℕ
-product notANumber y = quiet
-product (infinite s) notANumber = quiet
+product not_a_number y = quiet
+product (infinite s) not_a_number = quiet
 product (infinite s) (infinite t) = with_sign (unlike s t) infinity
 product (infinite s) (finite t v) = cond (eqb v 0) quiet (with_sign (unlike s t) infinity)
-product (finite s u) notANumber = quiet
+product (finite s u) not_a_number = quiet
 product (finite s u) (infinite t) = cond (eqb u 0) quiet (with_sign (unlike s t) infinity)
 product (finite s u) (finite t v) = rounded (exact_product s u t v)
 
 unfoldable pub quotient : Value → Value → ℕ
-quotient notANumber y = quiet
-quotient (infinite s) notANumber = quiet
+quotient not_a_number y = quiet
+quotient (infinite s) not_a_number = quiet
 quotient (infinite s) (infinite t) = quiet
 quotient (infinite s) (finite t v) = with_sign (unlike s t) infinity
-quotient (finite s u) notANumber = quiet
+quotient (finite s u) not_a_number = quiet
 quotient (finite s u) (infinite t) = with_sign (unlike s t) 0
 quotient (finite s u) (finite t v) = cond (eqb v 0) (cond (eqb u 0) quiet (with_sign (unlike s t) infinity)) (rounded (exact_quotient s u t v))
 
@@ -107,14 +107,14 @@ quotient_bits a b = quotient (value a) (value b)
 
 -- ---- to a whole number: toward zero, to the nearest end of the range where it is out of it, and 0 for a NaN
 unfoldable pub signed_whole : Value → ℤ
-signed_whole notANumber = pos 0
+signed_whole not_a_number = pos 0
 signed_whole (infinite true) = neg_ℤ (pos (2 ^ 63))
 signed_whole (infinite false) = pos (2 ^ 63 - 1)
 signed_whole (finite true u) = neg_ℤ (pos (min (u / 2 ^ 1074) (2 ^ 63)))
 signed_whole (finite false u) = pos (min (u / 2 ^ 1074) (2 ^ 63 - 1))
 
 unfoldable pub unsigned_whole : Value → ℕ
-unsigned_whole notANumber = 0
+unsigned_whole not_a_number = 0
 unsigned_whole (infinite true) = 0
 unsigned_whole (infinite false) = 2 ^ 64 - 1
 unsigned_whole (finite true u) = 0
@@ -132,7 +132,7 @@ of_whole n = rounded (exactly false (n * 2 ^ 1074) 1)
 
 -- ---- below zero: not so for -0 and a NaN
 unfoldable pub negative : Value → Bool
-negative notANumber = false
+negative not_a_number = false
 negative (infinite s) = s
 negative (finite s u) = s && ltb 0 u
 

@@ -1,6 +1,6 @@
 -- What the four operations give for infinities, zero divisors and NaNs, by the clauses of IEEE 754-2019. Definitions only.
 use Rattle.std.specs.Prelude.{ℕ, suc, ◌≡◌, Bool, not}
-use Rattle.binary64.specs.Binary64.{infinity, quiet, Value, notANumber, infinite, finite, value, with_sign, unlike, sum_bits, difference_bits, product_bits, quotient_bits}
+use Rattle.binary64.specs.Binary64.{infinity, quiet, Value, not_a_number, infinite, finite, value, with_sign, unlike, sum_bits, difference_bits, product_bits, quotient_bits}
 
 -- the operation gives the pattern r for all patterns that stand for x (left) and y (right)
 abbrev pub ◌of◌and◌gives◌ : (ℕ → ℕ → ℕ) → Value → Value → ℕ → Type 0
@@ -13,8 +13,8 @@ EachOperation P = P sum_bits × P difference_bits × P product_bits × P quotien
 -- s and t are the operands' signs. `finite s 0` is a zero, `finite s (suc u)` a finite number that isn't, and x and y are anything
 pub record SpecialCases (s t : Bool) (u v : ℕ) (x y : Value) : Type 0 where
   -- 6.2: with a NaN operand the result is a quiet NaN, here always 0x7ff8000000000000
-  pub nan_left : EachOperation (λ op. op of notANumber and y gives quiet)
-  pub nan_right : EachOperation (λ op. op of x and notANumber gives quiet)
+  pub nan_left : EachOperation (λ op. op of not_a_number and y gives quiet)
+  pub nan_right : EachOperation (λ op. op of x and not_a_number gives quiet)
   -- 7.2, invalid operation: the result is that NaN
   pub sum_of_unlike_infinities : sum_bits of infinite s and infinite (not s) gives quiet
   pub difference_of_like_infinities : difference_bits of infinite s and infinite s gives quiet

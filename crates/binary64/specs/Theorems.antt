@@ -76,9 +76,9 @@ pub record Theorems : Type 0 where
   pub overflows : OverflowsFrom
   pub exact : ExactResultIsGiven
   pub sum : SumIsRounded
-  pub zero-sum : ZeroSumIsSigned
+  pub zero_sum : ZeroSumIsSigned
   pub difference : DifferenceIsRounded
-  pub zero-difference : ZeroDifferenceIsSigned
+  pub zero_difference : ZeroDifferenceIsSigned
   pub product : ProductIsRounded
   pub quotient : QuotientIsRounded
   pub special : SpecialCasesHold

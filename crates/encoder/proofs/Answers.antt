@@ -28,9 +28,9 @@ well_len false n k e z = absurd (z e)
 
 -- by the room
 module _ (n room : ℕ) where
-  in-room : n ≤ room → in_room room (encoded n) ≡ encoded n
+  in_room_lem : n ≤ room → in_room room (encoded n) ≡ encoded n
   unfolding in_room
-  in-room h = rw (le-leb n room h)
+  in_room_lem h = rw (le-leb n room h)
 
   pub past_room : room < n → in_room room (encoded n) ≡ unencoded 10
   unfolding in_room
@@ -63,7 +63,7 @@ pub room_fits : (room n : ℕ) (r : Room) → Fits room n r → r.short ≡ fals
 room_fits room n r f e =
     let p = f.rest e in
     let q : room - r.left ≡ n = omega arith in
-    rw q (sym (in-room n room (omega arith)))
+    rw q (sym (in_room_lem n room (omega arith)))
 
 -- 9, or the size
 module _ (image : List ℕ) (is : List Inst) (count : ℕ) where

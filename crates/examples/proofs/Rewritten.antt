@@ -29,7 +29,7 @@ record Cases : Type 0 where
   -- HALT last
   halt : Case (69 ∷ []) (69 ∷ [])
   -- a last byte 69 that belongs to a name (JE), a cell (PUSH), a stream (FDMP): HALT is appended
-  in-name : Case (12 ∷ 1 ∷ 0 ∷ 0 ∷ 0 ∷ 0 ∷ 0 ∷ 0 ∷ 0 ∷ 69 ∷ []) (12 ∷ 1 ∷ 0 ∷ 0 ∷ 0 ∷ 0 ∷ 0 ∷ 0 ∷ 0 ∷ 69 ∷ 69 ∷ [])
+  in_name : Case (12 ∷ 1 ∷ 0 ∷ 0 ∷ 0 ∷ 0 ∷ 0 ∷ 0 ∷ 0 ∷ 69 ∷ []) (12 ∷ 1 ∷ 0 ∷ 0 ∷ 0 ∷ 0 ∷ 0 ∷ 0 ∷ 0 ∷ 69 ∷ 69 ∷ [])
   in_cell : Case (1 ∷ 0 ∷ 0 ∷ 0 ∷ 0 ∷ 0 ∷ 0 ∷ 0 ∷ 69 ∷ []) (1 ∷ 0 ∷ 0 ∷ 0 ∷ 0 ∷ 0 ∷ 0 ∷ 0 ∷ 69 ∷ 69 ∷ [])
   in_stream : Case (46 ∷ 69 ∷ []) (46 ∷ 69 ∷ 69 ∷ [])
   -- a first byte 27 becomes 46, any other byte 27 stays
@@ -45,7 +45,7 @@ unfolding start rewritten little_endian form_of has_none has_eight has_one has_n
 cases =
     record {
       halt = record { as_written = refl; as_loaded = refl; as_written_again = refl };
-      in-name = record { as_written = refl; as_loaded = refl; as_written_again = refl };
+      in_name = record { as_written = refl; as_loaded = refl; as_written_again = refl };
       in_cell = record { as_written = refl; as_loaded = refl; as_written_again = refl };
       in_stream = record { as_written = refl; as_loaded = refl; as_written_again = refl };
       dump = record { as_written = refl; as_loaded = refl; as_written_again = refl };

@@ -22,7 +22,7 @@ use Rattle.machine.specs.Lookup.{walk, lookup_from, lookup}
 use Rattle.machine.specs.Change.{with_stack, with_calls, moved, stopped}
 use Rattle.machine.specs.Step.{◌must◌else◌then◌, op_of, push, pop, call_to, call, ret, dump, exec, well_state, step}
 use Rattle.machine.specs.Run.{is_ill, is_dump, before, taken, turn, course, Result, reported, run}
-use Rattle.machine.specs.Effects.{effects, lost_at, effect, drop_last, open_calls}
+use Rattle.machine.specs.Effects.{effects, lost_at, effect, drop_last, open_calls_after}
 use Rattle.machine.specs.History.{State, initial, History, none, end, end_with, advance, stepped, program_of, further, history}
 use Rattle.machine.specs.Statements.{Request, runs, total_steps, all_dumped, last_machine, Counted, Below, loaded_program}
 use Rattle.inst.proofs.Laws.{and_left, and_right}
@@ -140,7 +140,7 @@ record Computed : Type 0 where
   long : number (loads (replicate 16385 0)) ≡ 1
 
 computed : Computed
-unfolding image named loaded of_load insts labels bytes_of load loads same linked scan_one and_then scan last_of any_native last_is_halt closed checked entered finished decode.from_bytes decode.read_name decode.read_operand little_endian decode.type_of decode.is_negative form_of has_none has_eight has_one has_name name_ok name_in fits well_formed requests results line report runs run reported course turn taken before is_ill is_dump step well_state exec push pop call_to call ret dump ◌must◌else◌then◌ op_of walk lookup_from lookup with_stack with_calls moved fresh loaded_program insts_after labels_after total_steps all_dumped told number started lost history_of history initial further stepped end_with advance effects lost_at effect drop_last open_calls stopped
+unfolding image named loaded of_load insts labels bytes_of load loads same linked scan_one and_then scan last_of any_native last_is_halt closed checked entered finished decode.from_bytes decode.read_name decode.read_operand little_endian decode.type_of decode.is_negative form_of has_none has_eight has_one has_name name_ok name_in fits well_formed requests results line report runs run reported course turn taken before is_ill is_dump step well_state exec push pop call_to call ret dump ◌must◌else◌then◌ op_of walk lookup_from lookup with_stack with_calls moved fresh loaded_program insts_after labels_after total_steps all_dumped told number started lost history_of history initial further stepped end_with advance effects lost_at effect drop_last open_calls_after stopped
 computed =
     record {
       accepted = refl;

@@ -1,6 +1,6 @@
 -- Conversions between patterns and whole numbers, and the test against zero, from the library's values to those of crate binary64.
 use Rattle.std.proofs.Common.{◌≡◌, ℕ, ◌+◌, ◌-◌, ◌*◌, ◌/◌, ◌^◌, ◌<◌, ◌≤◌, min, Bool, true, false, ◌||◌, T, ltb, ℤ, pos, neg_ℤ, sym, refl, ap, ◌∙◌, subst, le_refl, one-mul, le-div_iff_mul-le, zero-mul, mul-one, arith, pow_pos, ltb-false, le-ltb}
-use lib.Ieee.{Float, nan, inf, fin, float_is_nan as float_is_nan, binary64, up, down, lt, le, of_int, of_bits, to_bits, to_unsigned, to_signed}
+use lib.Ieee.{Float, nan, inf, fin, is_nan as float_is_nan, binary64, up, down, lt, le, of_int, of_bits, to_bits, to_unsigned, to_signed}
 use lib.Ieee.Fits.{down_pos}
 use lib.Ieee.Nearest.{div_same}
 use lib.Ieee.Bits.{nan_bits_is, nan_bits_above}
@@ -8,7 +8,7 @@ use Rattle.binary64.proofs.Special.{nan_is}
 use Rattle.float64.proofs.Decode.{Means, not_number, endless, number, read}
 use Rattle.float64.proofs.Encode.{round_bits}
 use Rattle.float64.proofs.Operations.{ltb_same}
-use Rattle.binary64.specs.Binary64.{float_is_nan, Value, finite, signed_whole, unsigned_whole, negative, to_i64, to_u64, below_zero, of_whole}
+use Rattle.binary64.specs.Binary64.{is_nan, Value, finite, signed_whole, unsigned_whole, negative, to_i64, to_u64, below_zero, of_whole}
 
 no : {X : Type 0} → false ≡ true → X
 no e = absurd (subst T (sym e) tt)
@@ -112,12 +112,12 @@ below_means not_number = refl
 below_means (endless s) = refl
 below_means (number s u m e a) = below_part m u e a s
 
-pub nan_whole : (a : ℕ) → float_is_nan a ≡ true → pos 0 ≡ to_i64 a
+pub nan_whole : (a : ℕ) → is_nan a ≡ true → pos 0 ≡ to_i64 a
 unfolding to_i64 signed_whole
 nan_whole a n = rw (nan_is a n)
 
 module _ (a : ℕ) {x : Float} (p : x ≡ of_bits binary64 a) where
-  pub nan_of : float_is_nan x ≡ float_is_nan a
+  pub nan_of : float_is_nan x ≡ is_nan a
   nan_of = ap float_is_nan p ∙ sym (nan_bits_is binary64 a) ∙ nan_bits_above binary64 a
 
   pub signed_of : to_signed 63 x ≡ to_i64 a

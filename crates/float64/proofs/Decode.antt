@@ -7,11 +7,11 @@ use lib.Ieee.{Float, nan, inf, fin, binary64, up, down, odd, of_bits, of_fields,
 use lib.Ieee.Bits.{nan_bits_is, nan_bits_above, cond_no}
 use lib.Ieee.Exact.{HasValue, odd_sign}
 use Rattle.binary64.specs.Rounding.{units, field_units}
-use Rattle.binary64.specs.Binary64.{infinity, Value, notANumber, infinite, finite, value}
+use Rattle.binary64.specs.Binary64.{infinity, Value, not_a_number, infinite, finite, value}
 
 -- the value p of a pattern is the library's x
 pub data Means : Value → Float → Type 0 where
-  not_number : Means notANumber nan
+  not_number : Means not_a_number nan
   endless : (s : Bool) → Means (infinite s) (inf s)
   number : (s : Bool) (u m : ℕ) (e : ℤ) → m * up e * 2 ^ 1074 ≡ u * down e → Means (finite s u) (fin s m e)
 
@@ -30,8 +30,8 @@ of_bits_is : (b : ℕ) → of_bits binary64 b ≡ of_fields binary64 (leb (2 ^ 6
 unfolding of_bits
 of_bits_is b = ap (λ (t : ℕ). of_fields binary64 (leb (2 ^ 63) b) (b % 2 ^ 63 / 2 ^ 52) t) (sym (mod-mod-pow b 11 52))
 
-pub not_a_number : (b : ℕ) → ltb infinity (b % 2 ^ 63) ≡ true → of_bits binary64 b ≡ nan
-not_a_number b h = only_nan (of_bits binary64 b) (sym (nan_bits_is binary64 b) ∙ nan_bits_above binary64 b ∙ h)
+pub is_not_a_number : (b : ℕ) → ltb infinity (b % 2 ^ 63) ≡ true → of_bits binary64 b ≡ nan
+is_not_a_number b h = only_nan (of_bits binary64 b) (sym (nan_bits_is binary64 b) ∙ nan_bits_above binary64 b ∙ h)
 
 infinite_fields : (s : Bool) → of_fields binary64 s (infinity / 2 ^ 52) (infinity % 2 ^ 52) ≡ inf s
 unfolding of_fields
@@ -61,7 +61,7 @@ module _ (b : ℕ) where
   s = leb (2 ^ 63) b
 
   by_tests : (x y : Bool) → (x ≡ true → of_bits binary64 b ≡ nan) → (T y → m ≡ infinity) → (T (not x) → T (not y) → HasValue (of_bits binary64 b) s (units 52 m) (2 ^ 1074))
-      → Means (cond x notANumber (cond y (infinite s) (finite s (units 52 m)))) (of_bits binary64 b)
+      → Means (cond x not_a_number (cond y (infinite s) (finite s (units 52 m)))) (of_bits binary64 b)
   by_tests true y f g h = rw (f refl) not_number
   by_tests false true f g h = rw (is_infinite b (g tt)) (endless s)
   by_tests false false f g h = has_value (of_bits binary64 b) s (units 52 m) (h tt tt)
@@ -69,7 +69,7 @@ module _ (b : ℕ) where
   decoded : Means (value b) (of_bits binary64 b)
   unfolding value
   decoded =
-      by_tests (ltb infinity m) (eqb m infinity) (not_a_number b) (eqb→eq m infinity)
+      by_tests (ltb infinity m) (eqb m infinity) (is_not_a_number b) (eqb→eq m infinity)
       (λ p q. is_finite b (lt_of_le-ne (nltb→le infinity m p) (λ e. subst (λ (z : ℕ). T (not (eqb z infinity))) e q)))
 
 pub read : (a : ℕ) {x : Float} → x ≡ of_bits binary64 a → Means (value a) x

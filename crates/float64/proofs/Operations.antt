@@ -52,9 +52,9 @@ module _ (A B C u v : ℕ) (P : 0 < C) (a : A * L ≡ u * C) (b : B * L ≡ v * 
   difference-same : (A - B) * L * 1 ≡ (u - v) * C
   difference-same = rw (mul-one, mul_comm (A - B) L, mul_comm (u - v) C, mul-sub L A B, mul-sub C u v, mul_comm L A, mul_comm L B, mul_comm C u, mul_comm C v, a, b)
 
-sum_bits : (s : Bool) (A : ℕ) (t : Bool) (B C u v : ℕ) → 0 < C → A * L ≡ u * C → B * L ≡ v * C → to_bits f (Ieee.sum f s A t B C) ≡ rounded (exact_sum s u t v)
+sum_bits_lem : (s : Bool) (A : ℕ) (t : Bool) (B C u v : ℕ) → 0 < C → A * L ≡ u * C → B * L ≡ v * C → to_bits f (Ieee.sum f s A t B C) ≡ rounded (exact_sum s u t v)
 unfolding Ieee.sum
-sum_bits s A t B C u v P a b = rw (ltb_same A B C u v P a b, ltb_same B A C v u P b a) (go (beq s t) (ltb u v) (s && ltb v u))
+sum_bits_lem s A t B C u v P a b = rw (ltb_same A B C u v P a b, ltb_same B A C v u P b a) (go (beq s t) (ltb u v) (s && ltb v u))
   where
     go : (k x r : Bool)
         → to_bits f (cond k (round f s (A + B) C) (cond x (round f t (B - A) C) (round f r (A - B) C)))
@@ -66,7 +66,7 @@ sum_bits s A t B C u v P a b = rw (ltb_same A B C u v P a b, ltb_same B A C v u 
 add_finite : (s : Bool) (m : ℕ) (e : ℤ) (t : Bool) (n : ℕ) (d : ℤ) (u v : ℕ) → m * up e * L ≡ u * down e → n * up d * L ≡ v * down d → to_bits f (add f (fin s m e) (fin t n d)) ≡ rounded (exact_sum s u t v)
 unfolding add
 add_finite s m e t n d u v a b =
-    sum_bits s (m * up e * down d) t (n * up d * down e) (down e * down d) u v (mul-pos (down_pos e) (down_pos d))
+    sum_bits_lem s (m * up e * down d) t (n * up d * down e) (down e * down d) u v (mul-pos (down_pos e) (down_pos d))
     (mul_right_comm (m * up e) (down d) L ∙ ap (λ (z : ℕ). z * down d) a ∙ mul_assoc u (down e) (down d))
     (mul_right_comm (n * up d) (down e) L ∙ ap (λ (z : ℕ). z * down e) b ∙ mul_assoc v (down d) (down e) ∙ ap (λ (z : ℕ). v * z) (mul_comm (down d) (down e)))
 

@@ -74,5 +74,5 @@ told image at =
     by_test (Told image at) (leb (length image) at) _ _ (λ _. (lit≤ tt, lit≤ tt))
     (λ k. operand_told image at op (form_of op) refl (leb-false _ _ k))
 
-pub read-in : (image : List ℕ) (at : ℕ) (i : Inst) (size : ℕ) → from_bytes image at ≡ reads i size → ReadIn image at i size
-read-in image at i size e = subst (Told image at) e (told image at)
+pub read_in_lem : (image : List ℕ) (at : ℕ) (i : Inst) (size : ℕ) → from_bytes image at ≡ reads i size → ReadIn image at i size
+read_in_lem image at i size e = subst (Told image at) e (told image at)

@@ -48,10 +48,10 @@ label-more (x ∷ xs) ys p (h ∷ ls) z k e =
 abbrev pub call : LoadAnswer → List ℕ → List Label → LoadCall
 call a insts labels = record { number = a.number; ip = a.ip; count = a.count; insts = insts; labels = labels }
 
-loaded_by : (o : Load) (insts : List ℕ) (labels : List Label) → loaded_by o insts labels ≡ call (numbers_of (checked_of o).loading) (insts_left o insts) (labels_after o labels)
+loaded_by_lem : (o : Load) (insts : List ℕ) (labels : List Label) → loaded_by o insts labels ≡ call (numbers_of (checked_of o).loading) (insts_left o insts) (labels_after o labels)
 unfolding loaded_by checked_of insts_left labels_after numbers_of
-loaded_by (rejects n) insts labels = refl
-loaded_by (accepts l) insts labels = refl
+loaded_by_lem (rejects n) insts labels = refl
+loaded_by_lem (accepts l) insts labels = refl
 
 -- the answer r, and the instruction table that was filled
 module _ (image insts₀ : List ℕ) (labels₀ : List Label) (r : Checked) (insts : List ℕ) (f : LoadInsts (load_of image insts₀ labels₀) insts₀ r insts) where
@@ -102,4 +102,4 @@ module _ (image insts₀ : List ℕ) (labels₀ : List Label) (r : Checked) (ins
   unfolding load_call
   over x o a e =
       let k = pass.underway_ends image insts₀ labels₀ labels₀ (λ ls. ls) x.p x.labels o x.holds in
-      rw (e, f.answers, f.insts-are, k ∙ leaves-are (load_of image insts₀ labels₀)) (loaded_by (load_of image insts₀ labels₀) insts₀ labels₀)
+      rw (e, f.answers, f.insts-are, k ∙ leaves-are (load_of image insts₀ labels₀)) (loaded_by_lem (load_of image insts₀ labels₀) insts₀ labels₀)

@@ -78,9 +78,9 @@ module _ (image : List ℕ) (c : Counts) (s : Scan) (e : c ≡ counts_of image s
   unfolding counts_of
   labels_is = ap (λ (x : Counts). x.labels) e
 
-  pub no_entry : c.found ≡ false → rejects 7 ≡ finished image (goes s)
+  pub no_entry_lem : c.found ≡ false → rejects 7 ≡ finished image (goes s)
   unfolding finished
-  no_entry h = sym (entered-none s _ (sym found_is ∙ h))
+  no_entry_lem h = sym (entered-none s _ (sym found_is ∙ h))
 
   module _ (h : c.found ≡ true) (count : ℕ) (k : count ≡ cond c.halt c.insts (c.insts + 1)) where
     there : finished image (goes s) ≡ checked (record { insts = closed s.insts; labels = s.labels; ip = pointer (entry_of image s) })

@@ -11,7 +11,7 @@ use borrow.Author.Tests.{leb-false}
 use Rattle.inst.specs.declared.Inst.{Inst}
 use Rattle.inst.proofs.Laws.{by_test}
 use Rattle.inst_decode.specs.Decode.{refused, reads, from_bytes}
-use Rattle.inst_decode.proofs.Facts.{read-in}
+use Rattle.inst_decode.proofs.Facts.{read_in_lem}
 use Rattle.machine.specs.Limits.{inst_limit, label_records}
 use Rattle.machine.specs.Load.{is_label, halt, Scan, Scanned, stops, goes, begin, scan_one, closed, Loaded, accepts, loads}
 use Rattle.tables.specs.Tables.{numbers_of, bytes_of, inst_numbers, inst_bytes}
@@ -90,7 +90,7 @@ module _ (image xs : List ℕ) where
         unfolding Took
         by_scan l r (stops m) w k = never_both m l (rest_stop image r.to (accepts l) (rw r.at_is at h) m r.rest w)
         by_scan l r (goes t) w k =
-            let m = (read-in image at i size e).moves in
+            let m = (read_in_lem image at i size e).moves in
             record { to = t; at_is = k.0; insts-are = k.1; below = k.2; rest = rest-next image r.to (accepts l) (rw r.at_is at h) t r.rest w (omega (arith, m, k.0)) }
 
         further : (l : Loaded) (r : Reached image xs l at n insts) → Further image l r.to i size

@@ -14,7 +14,7 @@ use Rattle.inst_decode.specs.declared.Decoded.{Decoded}
 use Rattle.inst_decode.specs.declared.Decoded.TheVariants as D
 use Rattle.inst_decode.specs.Decode.{refused, reads, means, from_bytes}
 use Rattle.inst_decode.specs.contracts.Decoded.{the_type}
-use Rattle.inst_decode.proofs.Facts.{read-in}
+use Rattle.inst_decode.proofs.Facts.{read_in_lem}
 use Rattle.machine.specs.Limits.{inst_limit, label_records}
 use Rattle.machine.specs.Load.{start_name, linked, Scan, scan_one}
 use Rattle.loader.specs.declared.Counts.{Counts}
@@ -85,6 +85,6 @@ module _ (image : List ℕ) (c : Counts) (s : Scan) (e : c ≡ counts_of image s
 pub further_at : (image : List ℕ) (c : Counts) (i : Inst) (size : ℕ) → from_bytes image c.at ≡ reads i size → c.insts < inst_limit → (d : Counts) → d.at ≡ c.at + size
     → d.insts ≡ c.insts + 1 → Further (length image) c d
 further_at image c i size f h d a n =
-    let r = read-in image c.at i size f in
+    let r = read_in_lem image c.at i size f in
     let k = r.inside in
     record { inside = omega (arith, k); moves = omega (arith, r.moves); one_more = n; insts_fit = omega arith }

@@ -18,10 +18,10 @@ use Rattle.machine.specs.Lookup.{Program}
 use Rattle.machine.specs.Step.{Stepped, succeeds, outputs, trap, ill, step}
 use Rattle.machine.specs.Run.{Course, ended, after, is_ill, is_dump, Before, before, taken, turn, course, reported, run}
 use Rattle.machine.specs.Change.{height_of_calls}
-use Rattle.machine.specs.Effects.{Outcome, untrapped, trapped, Calls, opens, closes, keeps, effect, leaves, open_calls}
+use Rattle.machine.specs.Effects.{Outcome, untrapped, trapped, Calls, opens, closes, keeps, effect, leaves, open_calls_after}
 use Rattle.machine.specs.History.{State, none, end, end_with, advance, stepped, effects_at, further, history}
 use Rattle.machine.specs.Steps.{CallsLeft}
-use Rattle.machine.specs.Statements.{is_ill, is_full, is_trap, Because, RunsAreHistories}
+use Rattle.machine.specs.Statements.{is_ill_lem, is_full, is_trap, Because, RunsAreHistories}
 use Rattle.inst.proofs.Laws.{by_test, never, and_left, and_right}
 use Rattle.machine.proofs.Lists.{filled}
 use Rattle.machine.proofs.Lists.{length-drop_last}
@@ -40,20 +40,20 @@ abbrev Counts : Machine → List ℕ → Type 0
 Counts m l = height_of_calls m ≡ length l
 
 abbrev Open : Machine → Machine → List ℕ → Calls → Outcome → Type 0
-Open m m' l k o = (l' : List ℕ) × (open_calls k o m.ip l ≡ leaves l') × Counts m' l'
+Open m m' l k o = (l' : List ℕ) × (open_calls_after k o m.ip l ≡ leaves l') × Counts m' l'
 
 one_more_open : (m m' : Machine) (l : List ℕ) → Counts m l → height_of_calls m' ≡ height_of_calls m + 1 → Counts m' (l ++ (m.ip ∷ []))
 one_more_open m m' l h c = rw length-append (omega arith)
 
 open_next : (m m' : Machine) (l : List ℕ) → Counts m l → (k : Calls) → CallsAre k m m' → Open m m' l k untrapped
-unfolding CallsAre open_calls
+unfolding CallsAre open_calls_after
 open_next m m' l h keeps c = (l, refl, c.1 ∙ h)
 open_next m m' l h opens c = (_, refl, one_more_open m m' l h c.2)
 open_next m m' [] h closes c = absurd (omega (arith, c.0))
 open_next m m' (x ∷ l) h closes c = (_, refl, rw length-drop_last (omega (arith, c.2)))
 
 open_trap : (m m' : Machine) (l : List ℕ) → Counts m l → (k : Calls) (t : ℕ) → CallsLeft (eqb t 27) m m' → Room k t m → Open m m' l k (trapped t)
-unfolding Room open_calls CallsLeft
+unfolding Room open_calls_after CallsLeft
 open_trap m m' l h keeps t c r = (l, refl, (rw r at c).1 ∙ h)
 open_trap m m' l h closes t c r = (l, refl, (rw r at c).1 ∙ h)
 open_trap m m' l h opens t c r = (_, refl, by (eqb t 27) c)
@@ -75,7 +75,7 @@ module _ (p : Program) (first : State) where
   unfolding Because
   because_as m steps limit dumped room steps' limit' dumped' room' s l d Halted b = b
   because_as m steps limit dumped room steps' limit' dumped' room' s l d Limit b = (b.0, sym s ∙ b.1 ∙ l)
-  because_as m steps limit dumped room steps' limit' dumped' room' s l d (Number n) (is_ill e i h k) = is_ill e i h (rw (← s, ← l) k)
+  because_as m steps limit dumped room steps' limit' dumped' room' s l d (Number n) (is_ill_lem e i h k) = is_ill_lem e i h (rw (← s, ← l) k)
   because_as m steps limit dumped room steps' limit' dumped' room' s l d (Number n) (is_full e i f h k) = is_full e i (d f) h (rw (← s, ← l) k)
   because_as m steps limit dumped room steps' limit' dumped' room' s l d (Number n) (is_trap k u e h t) = is_trap k u (e ∙ s) h t
 
@@ -195,7 +195,7 @@ module _ (p : Program) (first : State) where
         by_test P m.halted _ _ (λ h. joined-ended n s limit room Halted q c h) λ h.
         by_test P (eqb limit 0) _ _ (λ z. joined-ended n s limit room Limit q c (h, ap (λ (x : ℕ). n + x) (sym (eqb-true limit 0 z)))) λ z.
         let l : n + 0 < n + limit = positive limit (eqb-false limit 0 z) in
-        by_test P (is_ill st) _ _ (λ i. joined-ended n s limit room (Number 34) q c (is_ill refl (ill_is st i) h l)) λ i.
+        by_test P (is_ill st) _ _ (λ i. joined-ended n s limit room (Number 34) q c (is_ill_lem refl (ill_is st i) h l)) λ i.
         by_test P (is_dump st && eqb room 0) _ _
         (λ d. joined-ended n s limit room (Number 33) q c (is_full refl (and_left _ _ d) (sym (eqb-true room 0 (and_right (is_dump st) _ d))) h l))
         (λ d. f (eqb-false limit 0 z) h i d)

@@ -17,7 +17,7 @@ use Rattle.machine.specs.Step.{Stepped, succeeds, outputs, trap, ill, step}
 use Rattle.machine.specs.Run.{is_ill, is_dump, Result}
 use Rattle.machine.specs.Effects.{Effects, Opened, lacking, leaves}
 use Rattle.machine.specs.History.{State, History, none, end, end_with, advance, stepped, effects_at, further, history}
-use Rattle.machine.specs.Statements.{Request, is_ill, is_full, is_trap, Because, IsHistory, OnlyOneResult}
+use Rattle.machine.specs.Statements.{Request, is_ill_lem, is_full, is_trap, Because, IsHistory, OnlyOneResult}
 use Rattle.inst.proofs.Laws.{never}
 use Rattle.machine.proofs.Histories.{end_same, none_end}
 
@@ -36,10 +36,10 @@ stepped-dumps v e (trap t m) u h = ([], ended_with _ _ (λ l. refl) _ u h, λ x.
 stepped-dumps v e ill u h = absurd (none_end u h)
 
 -- an ending by its tests, where the last step is no trap
-ending_alike : (halted used bad : Bool) → Ending
-ending_alike halted used bad = cond halted Halted (cond used Limit (cond bad (Number 34) (Number 33)))
+ending_of : (halted used bad : Bool) → Ending
+ending_of halted used bad = cond halted Halted (cond used Limit (cond bad (Number 34) (Number 33)))
 
-ending_alike : (a b c x y z : Bool) → a ≡ x → b ≡ y → c ≡ z → ending_alike x y z ≡ ending_alike a b c
+ending_alike : (a b c x y z : Bool) → a ≡ x → b ≡ y → c ≡ z → ending_of x y z ≡ ending_of a b c
 ending_alike a b c x y z e f g = cc
 
 not_ill : (st : Stepped) → is_dump st ≡ true → is_ill st ≡ false
@@ -106,7 +106,7 @@ module _ (p : Program) (s : State) where
               → (e : Ending) → Because p s r.steps q.limit r.dumped (length q.buffer) r.machine e → ⊥
           by v n g cells d o m Halted c = never (sym n ∙ ap (λ (x : Machine). x.halted) (sym h.machine_is) ∙ c)
           by v n g cells d o m Limit c = omega (arith, c.1, h'.within)
-          by v n g cells d o m (Number k) (is_ill e i x y) =
+          by v n g cells d o m (Number k) (is_ill_lem e i x y) =
               let w : step p h.last.machine ≡ ill = ap (step p) (sym h.machine_is) ∙ i in
               none_end v (sym (ap (stepped h.last _) w) ∙ g)
           by v n g cells d o m (Number k) (is_full e i f x y) =
@@ -134,15 +134,15 @@ module _ (p : Program) (s : State) where
             ∙ ap (λ (x : List ℕ). take r'.dumped r'.buffer ++ x) d ∙ take-append-drop r'.dumped r'.buffer
 
     abbrev ending_by : Machine → ℕ → Ending
-    ending_by m steps = ending_alike m.halted (eqb steps q.limit) (is_ill (step p m))
+    ending_by m steps = ending_of m.halted (eqb steps q.limit) (is_ill (step p m))
 
     ending_is : (r : Result) (X : Type 0) (e : Ending) → Because p s r.steps q.limit r.dumped (length q.buffer) r.machine e
         → (e ≡ ending_by r.machine r.steps → X)
         → ((n k : ℕ) (u : State) → e ≡ Number n → suc k ≡ r.steps → history p s k ≡ end u → step p u.machine ≡ trap n r.machine → X) → X
-    unfolding Because ending_alike is_ill
+    unfolding Because ending_of is_ill
     ending_is r X Halted b f g = f (ending_alike r.machine.halted (eqb r.steps q.limit) (is_ill (step p r.machine)) true _ _ b refl refl)
     ending_is r X Limit b f g = f (ending_alike r.machine.halted (eqb r.steps q.limit) (is_ill (step p r.machine)) false true _ b.0 (eq-eqb _ _ b.1) refl)
-    ending_is r X (Number n) (is_ill e i x y) f g =
+    ending_is r X (Number n) (is_ill_lem e i x y) f g =
         f (ap Number e ∙ ending_alike _ _ _ false false true x (ne_eqb r.steps q.limit (λ z. omega arith)) (ap is_ill i))
     ending_is r X (Number n) (is_full e i d x y) f g =
         f (ap Number e ∙ ending_alike _ _ _ false false false x (ne_eqb r.steps q.limit (λ z. omega arith)) (not_ill (step p r.machine) i))

@@ -9,7 +9,7 @@ use lib.Dec.{leb}
 use lib.IntN.{pos}
 use lib.ListN.{get_or, set}
 use borrow.Author.Tests.{lt-ltb, le-leb, leb-true}
-use Rattle.binary64.specs.Binary64.{is_nan, quiet, notANumber, value, signed_whole, unsigned_whole, to_i64, to_u64, negative, below_zero}
+use Rattle.binary64.specs.Binary64.{is_nan, quiet, not_a_number, value, signed_whole, unsigned_whole, to_i64, to_u64, negative, below_zero}
 use Rattle.binary64.proofs.Special.{nan_is, nan_result, special}
 use Rattle.nan.specs.declared.CellType.{CellType}
 use Rattle.nan.specs.declared.CellType.TheVariants.{F64, I64, Unknown}
@@ -150,5 +150,5 @@ nan_result_converts k m m' e = float-leaves (λ (x : Machine). is_nan (top x) �
 pub zero_by_zero_converts : ZeroByZeroConverts
 unfolding of_floats
 zero_by_zero_converts s t m m' e x y =
-    let q = (special s t 0 0 notANumber notANumber).zero_by_zero (top (popped m)) (top m) x y in
+    let q = (special s t 0 0 not_a_number not_a_number).zero_by_zero (top (popped m)) (top m) x y in
     (q, float-leaves ConvertsToZero FDIV m m' e (λ h. quiet-left FDIV m h q))

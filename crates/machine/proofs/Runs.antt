@@ -23,14 +23,14 @@ use Rattle.machine.specs.Effects.{effects}
 use Rattle.machine.specs.Touches.{touches}
 use Rattle.machine.specs.Steps.{touches_at, found_at}
 use Rattle.machine.specs.History.{State, initial, History, none, end, stepped, program_of, effects_at, further, history}
-use Rattle.machine.specs.Statements.{Request, runs, last_machine, total_steps, all_dumped, is_ill, is_full, is_trap, Because, AllBelow, Counted, Below, AllKept, RunsFrom, loaded_program, RunsAreOneHistory, NamesLeadToLast}
+use Rattle.machine.specs.Statements.{Request, runs, last_machine, total_steps, all_dumped, is_ill_lem, is_full, is_trap, Because, AllBelow, Counted, Below, AllKept, RunsFrom, loaded_program, RunsAreOneHistory, NamesLeadToLast}
 use Rattle.inst.proofs.Laws.{never}
 use Rattle.machine.proofs.Lists.{filled}
 use Rattle.machine.proofs.Loads.{AcceptedLoad, load-accepts}
 use Rattle.machine.proofs.Does.{Does, step_does, traps_leave}
 use Rattle.machine.proofs.Sound.{Sound, counted, below, Ahead, at_halt, ahead, stepped_sound}
 use Rattle.machine.proofs.Valid.{Valid, valid}
-use Rattle.machine.proofs.Tables.{padded, Inside, name-inside, lookup_is, name-found, inst_is, well_state, step_is}
+use Rattle.machine.proofs.Tables.{padded, Inside, name-inside, lookup_is, name-found, inst_is, well_state_lem, step_is}
 use Rattle.machine.proofs.Histories.{end_same, none_end, Joined, joins, front}
 use Rattle.machine.proofs.Only.{begins}
 
@@ -94,7 +94,7 @@ module _ (image : List ℕ) (l : Loaded) (v : Valid image l) where
       padded_does : Does ⊥ (effects_at lent_tables m) (touches_at lent_tables m) (found_at lent_tables m) m (step lent_tables m)
       unfolding Inside
       padded_does =
-          step_does ⊥ m lent_tables (λ w. never (sym w ∙ well_state image l v is ls m height_fits call_height_fits pointer_below))
+          step_does ⊥ m lent_tables (λ w. never (sym w ∙ well_state_lem image l v is ls m height_fits call_height_fits pointer_below))
           (λ e. subst (Inside count) e inside)
 
     -- the step of the history
@@ -170,7 +170,7 @@ module _ (image : List ℕ) (l : Loaded) (v : Valid image l) where
     -- no run from a point of the history ends with 34
     not_ill : (steps limit dumped room : ℕ) (last : State) → history Q first steps ≡ end last → Because Q first steps limit dumped room last.machine (Number 34) → ⊥
     unfolding Because Does
-    not_ill steps limit dumped room last q (is_ill e i h k) =
+    not_ill steps limit dumped room last q (is_ill_lem e i h k) =
         rw i at (padded_does last (history_sound steps last (sym (same-history steps) ∙ q)) is ls)
     not_ill steps limit dumped room last q (is_full e i f h k) = omega arith
     not_ill steps limit dumped room last q (is_trap k u e h t) = omega (arith, (traps_leave Q u.machine 34 last.machine t).number_to)

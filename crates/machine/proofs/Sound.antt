@@ -13,7 +13,7 @@ use Rattle.machine.specs.declared.Machine.{Machine}
 use Rattle.machine.specs.Limits.{stack_limit, call_limit}
 use Rattle.machine.specs.Change.{height_of_calls}
 use Rattle.machine.specs.Step.{Stepped, succeeds, outputs, trap, ill}
-use Rattle.machine.specs.Effects.{Outcome, untrapped, trapped, Effects, Calls, opens, closes, keeps, lost, effect, drop_last, leaves, open_calls}
+use Rattle.machine.specs.Effects.{Outcome, untrapped, trapped, Effects, Calls, opens, closes, keeps, lost, effect, drop_last, leaves, open_calls_after}
 use Rattle.machine.specs.History.{State, end, end_with, advance, stepped}
 use Rattle.machine.specs.Lookup.{Found, leads_to}
 use Rattle.machine.specs.Touches.{Pointer, past, to_label, to_popped, stays, Touches}
@@ -113,7 +113,7 @@ module _ (count : ℕ) where
 
     -- the open calls that are left
     abbrev Leaves : Calls → Outcome → Machine → Type 0
-    Leaves k o m' = (l' : List ℕ) × (open_calls k o m.ip l ≡ leaves l') × Called count m' l'
+    Leaves k o m' = (l' : List ℕ) × (open_calls_after k o m.ip l ≡ leaves l') × Called count m' l'
 
     called_27 : (b : Bool) (m' : Machine) → CallsLeft b m m' → m'.ip ≡ m.ip → (b ≡ true → (height_of_calls m < call_limit) × In (m.ip + 1))
         → Called count m' (cond b (l ++ (m.ip ∷ [])) l)
@@ -127,14 +127,14 @@ module _ (count : ℕ) where
 
     called_trap : (k : Calls) (q : Pointer) (t : ℕ) (m' : Machine) → Ahead count m k q → CallsLeft (eqb t 27) m m' → m'.ip ≡ m.ip → Room k t m
         → Leaves k (trapped t) m'
-    unfolding Room open_calls
+    unfolding Room open_calls_after
     called_trap keeps q t m' a c i r = (_, refl, called_other (eqb t 27) m' c i r)
     called_trap opens q t m' a c i r = (_, refl, called_27 (eqb t 27) m' c i (λ e. (r e, one-past q a)))
     called_trap closes q t m' a c i r = (_, refl, called_other (eqb t 27) m' c i r)
 
   called_next : (m : Machine) (l : List ℕ) (h : Called count m l) (k : Calls) (q : Pointer) (m' : Machine) → Ahead count m k q → CallsAre k m m' → In m'.ip
       → Leaves m l h k untrapped m'
-  unfolding CallsAre open_calls
+  unfolding CallsAre open_calls_after
   called_next m l h keeps q m' a c i = (_, refl, alike m l h m' c.0 c.1 i)
   called_next m l h opens q m' a c i = (_, refl, deeper m l h m' c.0 c.1 c.2 (one-past m l h q a) i)
   called_next m [] h closes q m' a c i = absurd (omega (arith, c.0, rw length-take at (ap length h.addresses-are), h.calls-size, h.call_height_fits))

@@ -125,9 +125,9 @@ module _ (image : List ℕ) (l : Loaded) (v : Valid image l) where
     inst_is m h = get_or-append l.insts is halt m.ip h
 
     -- no 34 before a lookup
-    pub well_state : (m : Machine) → m.height ≤ stack_limit → height_of_calls m ≤ call_limit → m.ip < count_of l → well_state p m ≡ true
+    pub well_state_lem : (m : Machine) → m.height ≤ stack_limit → height_of_calls m ≤ call_limit → m.ip < count_of l → well_state p m ≡ true
     unfolding well_state
-    well_state m h d i =
+    well_state_lem m h d i =
         let w = well_at image l.insts m.ip v.well i in
         let n : count_of l ≤ length (l.insts ++ is) = rw length-append (omega arith) in
         simp (inst_is m i, le-leb _ _ h, le-leb _ _ d, lt-ltb _ _ i, le-leb _ _ n, w)
@@ -135,4 +135,4 @@ module _ (image : List ℕ) (l : Loaded) (v : Valid image l) where
     pub step_is : (m : Machine) → m.height ≤ stack_limit → height_of_calls m ≤ call_limit → m.ip < count_of l
         → step p m ≡ exec (find_name (get_or l.insts m.ip halt)) (get_or l.insts m.ip halt) m (op_of (get_or l.insts m.ip halt).typ)
     unfolding step
-    step_is m h d i = simp (well_state m h d i, inst_is m i, lookup_is)
+    step_is m h d i = simp (well_state_lem m h d i, inst_is m i, lookup_is)

@@ -12,7 +12,7 @@ use lib.Seq.{get_or_at}
 use borrow.Author.Tests.{eqb-true, eqb-false, eq-eqb, ltb-true, ltb-false, leb-false}
 use Rattle.inst.specs.declared.Inst.{Inst}
 use Rattle.inst.specs.Forms.{Form, name, form_of, has_none, has_eight, has_one, has_name}
-use Rattle.inst.specs.Records.{Bytes, name_inside, fits, well_formed, same}
+use Rattle.inst.specs.Records.{Bytes, name_in, fits, well_formed, same}
 use Rattle.inst_decode.specs.Decode.{Answer, refused, reads}
 use Rattle.inst_decode.proofs.Facts.{Told, told}
 use Rattle.machine.specs.declared.Label.{Label}
@@ -27,7 +27,7 @@ use Rattle.machine.proofs.Loads.{one_case}
 -- definition number i of the label table leads to the one before, has a name in the image and a target among the first n
 pub record Definition (image : List ℕ) (n i : ℕ) (l : Label) : Type 0 where
   pub next_is : l.next ≡ i
-  pub name_inside : name_inside image l.start l.len ≡ true
+  pub name_inside : name_in image l.start l.len ≡ true
   pub target_below : l.target < n
 
 -- a name's last definition is at this entry, or it has none
@@ -154,13 +154,13 @@ chain_more image is i labels n c =
       last-are = λ wanted. last-kept image is i wanted (λ l. eqb-false i.typ 21 n l.is-label) _ (c.last-are wanted);
     }
 
-label-name : (image : List ℕ) (i : Inst) → is_label i ≡ true → well_formed image i ≡ true → name_inside image i.start i.len ≡ true
+label-name : (image : List ℕ) (i : Inst) → is_label i ≡ true → well_formed image i ≡ true → name_in image i.start i.len ≡ true
 unfolding well_formed form_of has_none has_eight has_one has_name fits
 label-name image i e w =
     let z : form_of i.typ ≡ name = ap form_of (eqb-true i.typ 21 e) in
     and_right (eqb i.val 0) _ (subst (λ (f : Form). fits image i f ≡ true) z w)
 
-module _ (image : List ℕ) (is : List Inst) (i : Inst) (label : is_label i ≡ true) (named : name_inside image i.start i.len ≡ true) where
+module _ (image : List ℕ) (is : List Inst) (i : Inst) (label : is_label i ≡ true) (named : name_in image i.start i.len ≡ true) where
   -- the definition that i makes, behind k others
   abbrev new : ℕ → Label
   new k = record { start = i.start; len = i.len; target = length is; next = k }
@@ -180,7 +180,7 @@ module _ (image : List ℕ) (is : List Inst) (i : Inst) (label : is_label i ≡ 
   new_last d k wanted h =
       rw (last_snoc image wanted no_entry d (new k))
       (by_test (LastIs image (is ++ (i ∷ [])) wanted) (same wanted (name_of image (new k))) _ _
-      (λ e. last_new image is i wanted (record { is_label = eqb-true i.typ 21 label; name_is = sym (same_is wanted _ e) }))
+      (λ e. last_new image is i wanted (record { is_label_lem = eqb-true i.typ 21 label; name_is = sym (same_is wanted _ e) }))
       (λ e. last-kept image is i wanted (λ l. never (sym e ∙ (rw l.name-is (same_self wanted)))) _ h))
 
   -- linked first: it stands last in the table and leads to the one before

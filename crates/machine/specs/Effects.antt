@@ -75,10 +75,10 @@ pub data Opened : Type 0 where
 
 -- The open calls after the instruction with the index i. CALL, untrapped or with 27, puts its own index last, but not with 23;
 -- RET, untrapped, removes the last, and there has to be one
-unfoldable pub open_calls : Calls → Outcome → ℕ → List ℕ → Opened
-open_calls keeps o i l = leaves l
-open_calls opens untrapped i l = leaves (l ++ (i ∷ []))
-open_calls opens (trapped t) i l = leaves (cond (eqb t 27) (l ++ (i ∷ [])) l)
-open_calls closes untrapped i [] = lacking
-open_calls closes untrapped i (x ∷ l) = leaves (drop_last (x ∷ l))
-open_calls closes (trapped t) i l = leaves l
+unfoldable pub open_calls_after : Calls → Outcome → ℕ → List ℕ → Opened
+open_calls_after keeps o i l = leaves l
+open_calls_after opens untrapped i l = leaves (l ++ (i ∷ []))
+open_calls_after opens (trapped t) i l = leaves (cond (eqb t 27) (l ++ (i ∷ [])) l)
+open_calls_after closes untrapped i [] = lacking
+open_calls_after closes untrapped i (x ∷ l) = leaves (drop_last (x ∷ l))
+open_calls_after closes (trapped t) i l = leaves l

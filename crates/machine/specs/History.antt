@@ -4,7 +4,7 @@ use Rattle.machine.specs.declared.Machine.{Machine}
 use Rattle.machine.specs.Load.{Loaded, count_of}
 use Rattle.machine.specs.Lookup.{Program}
 use Rattle.machine.specs.Step.{Stepped, succeeds, outputs, trap, ill, op_of, inst_at, step}
-use Rattle.machine.specs.Effects.{Outcome, untrapped, trapped, Effects, effects, effect, Opened, lacking, leaves, open_calls}
+use Rattle.machine.specs.Effects.{Outcome, untrapped, trapped, Effects, effects, effect, Opened, lacking, leaves, open_calls_after}
 
 -- a machine, a height, a list of open calls (those not yet returned from) and a list of dumps
 pub record State : Type 0 where
@@ -32,7 +32,7 @@ end_with state (leaves l) = end (state l)
 unfoldable pub advance : State → Effects → Outcome → Machine → List ℕ → History
 advance s e o m cells =
     end_with (λ (l : List ℕ). record { machine = m; height = s.height +ℤ effect e o; open_calls = l; dumps = s.dumps ++ cells })
-    (open_calls e.on-calls o s.machine.ip s.open-calls)
+    (open_calls_after e.on-calls o s.machine.ip s.open-calls)
 
 -- always with room for a dump; none where 34 holds
 unfoldable pub stepped : State → Effects → Stepped → History

@@ -24,7 +24,7 @@ pub record Request : Type 0 where
 -- Why a run of p from the state s ends with the number n: after so many steps of its limit, with so many cells dumped of its room, on the machine m
 pub data Why (p : Program) (s : State) (steps limit dumped room : ℕ) (m : Machine) (n : ℕ) : Type 0 where
   -- 34, and the limit isn't used up
-  is_ill : n ≡ 34 → step p m ≡ ill → m.halted ≡ false → steps < limit → Why p s steps limit dumped room m n
+  is_ill_lem : n ≡ 34 → step p m ≡ ill → m.halted ≡ false → steps < limit → Why p s steps limit dumped room m n
   -- 33, a dump that would succeed with the buffer full
   is_full : n ≡ 33 → is_dump (step p m) ≡ true → dumped ≡ room → m.halted ≡ false → steps < limit → Why p s steps limit dumped room m n
   -- the last step is the trap n
@@ -149,7 +149,7 @@ RunsAreOneHistory =
 
 -- the instruction i is a LABEL with this name
 pub record Labels (image name : List ℕ) (i : Inst) : Type 0 where
-  pub is_label : i.typ ≡ 21
+  pub is_label_lem : i.typ ≡ 21
   pub name_is : part image i.start i.len ≡ name
 
 -- the instruction with the index k is a definition of the name

@@ -18,7 +18,7 @@ use Rattle.run.specs.declared.progress.Progress.{Progress}
 use Rattle.run.specs.Runs.{ExecuteParts}
 use Rattle.c_answers.specs.declared.Ran.{Ran}
 use Rattle.machine_bytes.specs.Layout.{machine_size, is_machine, machine_of, machine_bytes}
-use Rattle.mm_host.specs.Calls.{loaded_by, load_call, ran_by, ran_with, run_called}
+use Rattle.mm_host.specs.Calls.{loaded_by, load_call, ran_by, ran_with, run_call}
 
 -- a load that refuses, and one that accepts, whose machine m was written
 module _ (insts labels machine : List ℕ) where
@@ -62,7 +62,7 @@ pub run_called : (image insts labels : List ℕ) (count : ℕ) (machine : List �
     ExecuteParts image insts labels count m limit dumps r s ca me dumps' →
     machine' ≡ machine_bytes (of_parts r.regs r.flags s ca me (eqb r.ending 0)) →
     a ≡ ran_with limit r →
-    run_called image insts labels count machine limit dumps ≡ record { ending = a.ending; steps = a.steps; dumped = a.dumped; machine = machine'; dumps = dumps' }
-unfolding run_called ran_by
+    run_call image insts labels count machine limit dumps ≡ record { ending = a.ending; steps = a.steps; dumped = a.dumped; machine = machine'; dumps = dumps' }
+unfolding run_call ran_by
 run_called image insts labels count machine limit dumps m r s ca me dumps' machine' a is reads ran wrote answers =
     rw (is, ← reads, ← ran.gives, wrote, answers) refl

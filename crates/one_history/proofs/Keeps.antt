@@ -19,7 +19,7 @@ use Rattle.machine.specs.Effects.{Effects, Opened, lacking, leaves}
 use Rattle.machine.specs.History.{State, History, none, end, end_with, advance, stepped, effects_at, further, history}
 use Rattle.machine.specs.Touches.{Touches}
 use Rattle.machine.specs.Steps.{CallsLeft, Touched, TrapLeft}
-use Rattle.machine.specs.Statements.{Request, Why, is_ill, is_full, is_trap, Because}
+use Rattle.machine.specs.Statements.{Request, Why, is_ill_lem, is_full, is_trap, Because}
 use Rattle.machine.proofs.Does.{traps_leave, steps_touch}
 use Rattle.machine.proofs.Histories.{runs_are_histories}
 use Rattle.c_answers.specs.Endings.{ending_number}
@@ -93,7 +93,7 @@ Told Limit = Unit {0}
 Told (Number n) = (20 ≤ n) × (n ≤ 34)
 
 why_told : (p : Program) (s : State) (steps limit dumped room : ℕ) (m : Machine) (n : ℕ) → Why p s steps limit dumped room m n → (20 ≤ n) × (n ≤ 34)
-why_told p s steps limit dumped room m n (is_ill e i h k) = (omega arith, omega arith)
+why_told p s steps limit dumped room m n (is_ill_lem e i h k) = (omega arith, omega arith)
 why_told p s steps limit dumped room m n (is_full e i f h k) = (omega arith, omega arith)
 why_told p s steps limit dumped room m n (is_trap k u e h t) = let l = traps_leave p u.machine n m t in (l.number-from, omega (arith, l.number-to))
 

@@ -8,7 +8,7 @@ use Rattle.inst.specs.declared.Inst.{Inst}
 use Rattle.inst.specs.Forms.{Form, none, eight, one, name, undefined, form_of}
 use Rattle.inst.specs.Records.{Bytes}
 use Rattle.inst_decode.specs.Decode.{reads, from_bytes}
-use Rattle.inst_decode.proofs.Facts.{read-in}
+use Rattle.inst_decode.proofs.Facts.{read_in_lem}
 use Rattle.inst_encode.specs.Encode.{bytes_of, operand_bytes, as_bytes}
 use Rattle.machine.specs.declared.Label.{Label}
 use Rattle.machine.specs.Load.{halt, name_of, linked, Scan, Scanned, stops, goes, begin, scan_one, Entry, no_entry, last_of}
@@ -105,7 +105,7 @@ module _ (image w : List ℕ) (bytes : Bytes image)
   step_too : (s t : Scan) → Followed s → ReadsOne image s t → ReadsOne w s t
   step_too s t h q =
       let a = alike (length s.insts) s.at q.inst q.size h.0.ends q.is in
-      let m = (read-in image s.at q.inst q.size q.is).moves in
+      let m = (read_in_lem image s.at q.inst q.size q.is).moves in
       record {
         inst = q.inst;
         size = q.size;

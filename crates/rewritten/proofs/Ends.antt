@@ -14,7 +14,7 @@ use Rattle.inst.specs.Forms.{none, has_none, has_eight, has_one, has_name, form_
 use Rattle.inst.specs.Records.{Bytes}
 use Rattle.inst.proofs.Laws.{by_test, never}
 use Rattle.inst_decode.specs.Decode.{reads, type_of, read_operand, from_bytes}
-use Rattle.inst_decode.proofs.Facts.{read-in}
+use Rattle.inst_decode.proofs.Facts.{read_in_lem}
 use Rattle.inst_encode.specs.Encode.{operand_bytes, as_bytes}
 use Rattle.machine.specs.Limits.{inst_limit}
 use Rattle.machine.specs.Load.{is_halt, halt, Scan, goes, scan_one, last_is_halt, closed}
@@ -56,7 +56,7 @@ type_69 op = by_test (λ t. t ≡ 69 → op ≡ 69) (eqb op 27) 46 op (λ _ e. a
 halt-read : (image : List ℕ) (at : ℕ) (i : Inst) (size : ℕ) → Bytes image → from_bytes image at ≡ reads i size → is_halt i ≡ true → get_or image at 0 ≡ 69
 unfolding as_bytes written_byte
 halt-read image at i size bytes e h =
-    let r = read-in image at i size e in
+    let r = read_in_lem image at i size e in
     let a = (reads_again image at bytes i size e).written.bytes_are 0 r.moves in
     type_69 (get_or image at 0) (sym a ∙ eqb-true i.typ 69 h)
 
@@ -68,15 +68,15 @@ module _ (image : List ℕ) (bytes : Bytes image) (s : Scan) (listed : ReadSoFar
       let h : k < length s.insts = omega (arith, z.1) in
       let r = listed.each k h in
       let b = halt-read image r.at _ r.size bytes r.is (sym (last_at s.insts k z.1) ∙ e) in
-      let m = read-in image r.at _ r.size r.is in
+      let m = read_in_lem image r.at _ r.size r.is in
       let q = (one_reading image r.at r.at _ halt r.size 1 refl r.is (reads-halt image r.at (omega (arith, m.moves, m.inside)) b)).1 in
       let p = one_place image (suc k) (r.at + r.size) s.at (next k r.at r.size _ r.begins r.is) (rw z.1 listed.ends) in
-      record { index = k; at = r.at; begins = r.begins; is_halt = b; is_last = omega arith }
+      record { index = k; at = r.at; begins = r.begins; is_halt_lem = b; is_last = omega arith }
 
   pub last_halts : EndsWithHalt image → last_is_halt s.insts ≡ true
   last_halts e =
       let k = e.index in
-      let q = reads-halt image e.at (omega (arith, e.is_last)) e.is_halt in
+      let q = reads-halt image e.at (omega (arith, e.is_last)) e.is_halt_lem in
       let r = inst_is image bytes s listed to_end k e.at halt 1 e.begins q in
       let n = next k e.at 1 halt e.begins q in
       let z = number_at_end image bytes s listed to_end (suc k) (e.at + 1) n (omega (arith, e.is_last)) in

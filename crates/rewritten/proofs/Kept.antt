@@ -15,12 +15,12 @@ use Rattle.inst.specs.Forms.{Form, none, eight, one, name, undefined, has_none, 
 use Rattle.inst.specs.Records.{Bytes, name_ok, part}
 use Rattle.inst.proofs.Laws.{by_test, never, and_left, and_right}
 use Rattle.inst_decode.specs.Decode.{Answer, refused, reads, type_of, magnitude, is_negative, read_name, read_operand, from_bytes}
-use Rattle.inst_decode.proofs.Facts.{read-in}
+use Rattle.inst_decode.proofs.Facts.{read_in_lem}
 use Rattle.inst_encode.specs.Encode.{as_bytes}
 use Rattle.machine.specs.Load.{halt, Scan, begin}
 use Rattle.machine.specs.Encode.{bytes_of_all}
 use Rattle.rewritten.specs.Rewritten.{Begins, Changes, dump, high_byte, BytesKept}
-use Rattle.rewritten.proofs.Instructions.{only_name, written_small, first_byte, zero_byte, Alike, reads_again}
+use Rattle.rewritten.proofs.Instructions.{is_name, written_byte, first_byte, zero_byte, Alike, reads_again}
 use Rattle.rewritten.proofs.Places.{one_place, one_adds, ReadAt, ReadSoFar}
 use Rattle.rewritten.proofs.Scans.{Scans, done, more, listed, begin-listed, step-listed}
 use Rattle.rewritten.proofs.Written.{number_below}
@@ -32,11 +32,11 @@ unfolding type_of
 type_byte op h = by_test (λ t. t < 256) (eqb op 27) 46 op (λ _. lit< tt) (λ _. h)
 
 module _ (image : List ℕ) (bytes : Bytes image) where
-  written_small : (at j : ℕ) → written_small image at j < 256
-  unfolding written_small
+  written_small : (at j : ℕ) → written_byte image at j < 256
+  unfolding written_byte
   written_small at j =
       by_test (λ b. b < 256) (eqb j 0) _ _ (λ _. type_byte _ (bytes at))
-      (λ _. by_test (λ b. b < 256) (only_name (form_of (get_or image at 0)) && within 7 8 j) 0 _ (λ _. lit< tt) (λ _. bytes (at + j)))
+      (λ _. by_test (λ b. b < 256) (is_name (form_of (get_or image at 0)) && within 7 8 j) 0 _ (λ _. lit< tt) (λ _. bytes (at + j)))
 
   pub inst_bytes : (k : ℕ) (i : Inst) → ReadAt image k i → Bytes (as_bytes image i)
   inst_bytes k i r j = by (ltb j r.size) refl
@@ -77,7 +77,7 @@ nine image at i size f e =
     (by_test NineAtLeast (leb (length image) at) _ _ (λ _. tt)
     (λ _. rw f (by_test NineAtLeast (ltb (length image) (at + 9)) _ _ (λ _. tt) (λ _. named))))
 
-only_name : (f : Form) → only_name f ≡ true → f ≡ name
+only_name : (f : Form) → is_name f ≡ true → f ≡ name
 only_name none e = never e
 only_name eight e = never e
 only_name one e = never e
@@ -132,14 +132,14 @@ covered image k s u (more _ t _ q r) l h g = by (λ z. covered image k t u r (st
     by f true z = record { index = length s.insts; at = s.at; inst = q.inst; size = q.size; begins = l.ends; is = q.is; before = h; behind = omega (arith, a, ltb-true k t.at z) }
     by f false z = f (ltb-false k t.at z)
 
-kept_byte : (image : List ℕ) (n at : ℕ) → Begins image n at → (j : ℕ) → ((b : ℕ) → Changes image (at + j) b → ⊥) → written_small image at j ≡ get_or image (at + j) 0
-unfolding written_small type_of
+kept_byte : (image : List ℕ) (n at : ℕ) → Begins image n at → (j : ℕ) → ((b : ℕ) → Changes image (at + j) b → ⊥) → written_byte image at j ≡ get_or image (at + j) 0
+unfolding written_byte type_of
 kept_byte image n at p zero g =
     by_test (λ b. b ≡ get_or image (at + 0) 0) (eqb (get_or image at 0) 27) 46 (get_or image at 0)
     (λ e. absurd (g 46 (rw add-zero (dump n at p (eqb-true _ 27 e)))))
     (λ _. rw add-zero)
 kept_byte image n at p (suc j) g =
-    let f = only_name (form_of (get_or image at 0)) in
+    let f = is_name (form_of (get_or image at 0)) in
     rw eqb-suc-zero
     (by_test (λ b. b ≡ get_or image (at + suc j) 0) (f && within 7 8 (suc j)) 0 _
     (λ e. absurd (g 0 (high_byte n at (suc j) p (only_name _ (and_left f _ e)) (and_right f _ e))))
@@ -164,7 +164,7 @@ module _ (image w : List ℕ) (bytes : Bytes image) (s : Scan) (r : Scans image 
   unfolding type_of
   changed k b (dump n at p e) =
       let x = read_here n at p (dump-inside image at e) in
-      let m = (read-in image at _ _ x.2).moves in
+      let m = (read_in_lem image at _ _ x.2).moves in
       rw add-zero at ((alike n at _ _ p x.2).bytes_are 0 m) ∙ first_byte image at ∙ rw e
   changed k b (high_byte n at j p e h) =
       let x = read_here n at p (name-inside image at e) in
@@ -173,7 +173,7 @@ module _ (image w : List ℕ) (bytes : Bytes image) (s : Scan) (r : Scans image 
       let hi = leb-true j 8 (and_right (leb 7 j) (leb j 8) h) in
       (alike n at _ _ p x.2).bytes_are j (omega arith) ∙ high_zero j (rw e) lo hi
     where
-      high_zero : (j : ℕ) → only_name (form_of (get_or image at 0)) ≡ true → 7 ≤ j → j ≤ 8 → written_small image at j ≡ 0
+      high_zero : (j : ℕ) → is_name (form_of (get_or image at 0)) ≡ true → 7 ≤ j → j ≤ 8 → written_byte image at j ≡ 0
       high_zero zero q lo hi = absurd (omega arith)
       high_zero (suc j) q lo hi = zero_byte image at j q lo hi
 

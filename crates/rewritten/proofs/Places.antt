@@ -11,7 +11,7 @@ use lib.Seq.{get_or_at}
 use borrow.Author.Tests.{ltb-true, ltb-false}
 use Rattle.inst.specs.declared.Inst.{Inst}
 use Rattle.inst_decode.specs.Decode.{Answer, refused, reads, from_bytes}
-use Rattle.inst_decode.proofs.Facts.{read-in}
+use Rattle.inst_decode.proofs.Facts.{read_in_lem}
 use Rattle.machine.specs.Load.{halt, Scan, Scanned, stops, goes, scan_one}
 use Rattle.machine.proofs.Loads.{one_case}
 use Rattle.rewritten.specs.Rewritten.{Begins, first, next}
@@ -41,11 +41,11 @@ one_place image _ _ _ (next n at size i p e) (next _ at' size' i' p' e') =
 
 pub begins-inside : (image : List ℕ) (n at : ℕ) → Begins image n at → at ≤ length image
 begins-inside image n at first = omega arith
-begins-inside image n at (next m a size i p e) = (read-in image a i size e).inside
+begins-inside image n at (next m a size i p e) = (read_in_lem image a i size e).inside
 
 -- nothing is read at the end
 pub none_at_end : (image : List ℕ) (at : ℕ) (i : Inst) (size : ℕ) → length image ≤ at → from_bytes image at ≡ reads i size → ⊥
-none_at_end image at i size h e = let r = read-in image at i size e in omega (arith, r.moves, r.inside)
+none_at_end image at i size h e = let r = read_in_lem image at i size e in omega (arith, r.moves, r.inside)
 
 -- ---- a scan
 

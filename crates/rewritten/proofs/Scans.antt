@@ -9,7 +9,7 @@ use lib.ListN.{length}
 use borrow.Author.Tests.{ltb-true, lt-ltb, le-ltb}
 use Rattle.inst.specs.declared.Inst.{Inst}
 use Rattle.inst_decode.specs.Decode.{Answer, refused, reads, from_bytes}
-use Rattle.inst_decode.proofs.Facts.{read-in}
+use Rattle.inst_decode.proofs.Facts.{read_in_lem}
 use Rattle.machine.specs.Load.{Scan, Scanned, stops, goes, begin, scan_one, and_then, scan}
 use Rattle.rewritten.specs.Rewritten.{first}
 use Rattle.rewritten.proofs.Places.{one_adds, ReadSoFar, listed_next}
@@ -86,5 +86,5 @@ module _ (image : List ℕ) where
   scan_to_end s u (more _ t _ q r) e zero h = absurd (omega (arith, q.inside))
   scan_to_end s u (more _ t _ q r) e (suc fuel) h =
       let a = one_adds s q.inst q.size t q.goes_on in
-      let m = (read-in image s.at q.inst q.size q.is).moves in
+      let m = (read_in_lem image s.at q.inst q.size q.is).moves in
       step_is fuel s t q ∙ scan_to_end t u r e fuel (omega (arith, a.at_is))

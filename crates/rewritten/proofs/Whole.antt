@@ -141,12 +141,12 @@ module _ (image : List ℕ) (bytes : Bytes image) (l : Loaded) (p : Parsed image
       by : Tail is t → EndsWithHalt w
       by (inl x) =
           let e = ends_with image bytes s ls to_end x.0 in
-          let a = same e.index e.at halt 1 e.begins (reads-halt image e.at (omega (arith, e.is_last)) e.is_halt) in
+          let a = same e.index e.at halt 1 e.begins (reads-halt image e.at (omega (arith, e.is_last)) e.is_halt_lem) in
           record {
             index = e.index;
             at = e.at;
             begins = begins_too image w bytes same _ _ e.begins;
-            is_halt = rw add-zero at (a.bytes_are 0 (lit< tt)) ∙ first_byte image e.at ∙ type_halt _ e.is_halt;
+            is_halt_lem = rw add-zero at (a.bytes_are 0 (lit< tt)) ∙ first_byte image e.at ∙ type_halt _ e.is_halt_lem;
             is_last = e.is_last ∙ sym (w_nothing x.1);
           }
       by (inr x) =
@@ -154,7 +154,7 @@ module _ (image : List ℕ) (bytes : Bytes image) (l : Loaded) (p : Parsed image
             index = length is;
             at = length image;
             begins = begins_too image w bytes same _ _ (rw (← to_end) ls.ends);
-            is_halt = last_byte x.1;
+            is_halt_lem = last_byte x.1;
             is_last = sym (w_longer x.1);
           }
 
@@ -195,8 +195,8 @@ module _ (image : List ℕ) (bytes : Bytes image) (l : Loaded) (p : Parsed image
       let z = scan_to_end w begin v x.1 (omega (arith, x.2)) (length w) (omega arith) in
       let start : last_of w start_name no_entry (drop 1 v.labels) ≡ entry l.ip =
       ap (λ (d : List Label). last_of w start_name no_entry (drop 1 d)) x.4 ∙ last_too image w bytes same s start_name r ∙ f.start in
-      let is_closed : l.insts ≡ closed v.insts = f.insts-are ∙ sym (closed_again is) ∙ ap closed (closed_is ∙ sym x.3) in
-      loads_as w l v h z (record { insts-are = is_closed; labels-are = f.labels-are ∙ sym x.4; start = start; fits = f.fits; no_native = f.no_native })
+      let is-closed : l.insts ≡ closed v.insts = f.insts-are ∙ sym (closed_again is) ∙ ap closed (closed_is ∙ sym x.3) in
+      loads_as w l v h z (record { insts-are = is-closed; labels-are = f.labels-are ∙ sym x.4; start = start; fits = f.fits; no_native = f.no_native })
 
   -- ---- the same names
 
@@ -210,10 +210,10 @@ module _ (image : List ℕ) (bytes : Bytes image) (l : Loaded) (p : Parsed image
       by false e = subst (SameName image w) (sym (tail_halts is t k tail (ltb-false k (length is) e))) (nameless image 0 bytes w)
 
   labels_too : (name : List ℕ) (k : ℕ) → Labels image name (get_or (is ++ t) k halt) → Labels w name (get_or (is ++ t) k halt)
-  labels_too name k x = record { is_label = x.is_label; name_is = names k ∙ x.name_is }
+  labels_too name k x = record { is_label_lem = x.is_label_lem; name_is = names k ∙ x.name_is }
 
   labels_back : (name : List ℕ) (k : ℕ) → Labels w name (get_or (is ++ t) k halt) → Labels image name (get_or (is ++ t) k halt)
-  labels_back name k x = record { is_label = x.is_label; name_is = sym (names k) ∙ x.name_is }
+  labels_back name k x = record { is_label_lem = x.is_label_lem; name_is = sym (names k) ∙ x.name_is }
 
   start_too : (ip : ℕ) → DefinesLast image (is ++ t) start_name ip → DefinesLast w (is ++ t) start_name ip
   start_too ip d = ((d.0.0, labels_too start_name ip d.0.1), λ j h x. d.1 j h (x.0, labels_back start_name j x.1))

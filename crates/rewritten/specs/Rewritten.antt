@@ -25,7 +25,7 @@ pub record EndsWithHalt (image : List ℕ) : Type 0 where
   pub index : ℕ
   pub at : ℕ
   pub begins : Begins image index at
-  pub is_halt : get_or image at 0 ≡ 69
+  pub is_halt_lem : get_or image at 0 ≡ 69
   pub is_last : suc at ≡ length image
 
 -- ---- the room

@@ -57,9 +57,9 @@ module _ (c : Registers) (f : ℕ) (s ca me : List ℕ) (rest : ℕ → Machine 
   unfolding turn is_ill is_dump
   full x m z = ap (turn (of_parts c f s ca me false) rest room (outputs x m)) (before_full (of_parts c f s ca me false) left room (outputs x m) refl l refl (eq-eqb room 0 z))
 
-  is_ill : turned (of_parts c f s ca me false) rest left room ill ≡ ended (Number 34) (of_parts c f s ca me false)
+  is_ill_lem : turned (of_parts c f s ca me false) rest left room ill ≡ ended (Number 34) (of_parts c f s ca me false)
   unfolding turn is_ill
-  is_ill = ap (turn (of_parts c f s ca me false) rest room ill) (before_ill (of_parts c f s ca me false) left room ill refl l refl)
+  is_ill_lem = ap (turn (of_parts c f s ca me false) rest room ill) (before_ill (of_parts c f s ca me false) left room ill refl l refl)
 
 -- the rest behind n cells was lent, and came back as ys: with the cell x at its front
 pub lent-cell : (b ys : List ℕ) (n x : ℕ) → n < length b / 8 → ys ≡ sets (take (length b - n * 8) (drop (n * 8) b)) 0 (eight_of x)
@@ -162,7 +162,7 @@ module _ (c : Registers) (f left n : ℕ) (b : List ℕ) (l : 0 < left) (h : n *
       record {
         followed = (
           λ s ca me s' ca' me' rest k q u.
-              ap (more k (take n (numbers_in b))) (is_ill c f s ca me rest left (length b / 8 - n) l)
+              ap (more k (take n (numbers_in b))) (is_ill_lem c f s ca me rest left (length b / 8 - n) l)
               ∙ more-ended k (left - left) (take n (numbers_in b)) (Number 34) (of_parts c f s ca me false) (omega arith)
               ∙ rw (u.0, u.1, u.2) refl,
           omega arith,

@@ -58,8 +58,8 @@ module _ (c : ℕ) where
   is_bits true e = let h = eqb-true _ _ e in rw (nan_of_bits h, tag_of_bits h)
   is_bits false e = sym (no_bits (is_nan c) refl (eqb-false _ _ e))
 
-  pub is_i64 : eqb (i64_bits c) 0x7FF2 ≡ is I64 c
-  is_i64 = is_bits (eqb (i64_bits c) 0x7FF2) refl
+  pub is_i64_lem : eqb (i64_bits c) 0x7FF2 ≡ is I64 c
+  is_i64_lem = is_bits (eqb (i64_bits c) 0x7FF2) refl
 
 -- ---- an I64 cell is known
 
@@ -94,8 +94,8 @@ module _ (k : Integer) (m : Machine) where
       unfolding integer_step
       typed = passes _ _ _ _ h ∙ passes _ _ _ _ (known_both _ _ e) ∙ passes _ _ _ _ e
 
-      pub integer-zero : divides k (top m) ≡ false → integer_step k m ≡ trap 24 (popped m)
-      integer-zero d = typed ∙ fails _ _ _ _ d
+      pub integer_zero : divides k (top m) ≡ false → integer_step k m ≡ trap 24 (popped m)
+      integer_zero d = typed ∙ fails _ _ _ _ d
 
       pub integer_does : divides k (top m) ≡ true → integer_step k m ≡ succeeds (onward (replaced (of_cells k (top (popped m)) (top m)) (popped m)))
       integer_does d = typed ∙ passes _ _ _ _ d

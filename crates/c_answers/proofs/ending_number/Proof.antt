@@ -8,9 +8,9 @@ returns : tie.Need-returns
 unfolding ending_number
 returns c = simp c.enum_told.given.1
 
-returns_2 : tie.Need-returns-2
+returns-2 : tie.Need-returns-2
 unfolding ending_number
-returns_2 c = simp c.enum-told2.given.1
+returns-2 c = simp c.enum-told2.given.1
 
 returns-3 : tie.Need-returns-3
 unfolding ending_number
@@ -25,5 +25,5 @@ ending_number_spec =
     (λ c. search rules)
     (λ c. search rules)
     returns
-    returns_2
+    returns-2
     returns-3)

@@ -14,34 +14,34 @@ use Rattle.digests.proofs.Laws.{Agreeing, agreeing-next, agreeing_differs, agree
 use Rattle.digests.proofs.agreeing_steps.Statement.{statement}
 use Rattle.digests.proofs.agreeing_steps.Tie as tie
 
-abbrev invariant_loop : tie.invariant-loop
-invariant_loop image insts labels count recorded before₀ i₀ before i = Agreeing (program image insts labels count) before₀ (records_of word recorded) before i
+abbrev invariant-loop : tie.invariant-loop
+invariant-loop image insts labels count recorded before₀ i₀ before i = Agreeing (program image insts labels count) before₀ (records_of word recorded) before i
 
 abbrev decreases-loop : tie.decreases-loop
 decreases-loop image insts labels count recorded before₀ i₀ before i = length recorded / 4 - i
 
-loop-holds : tie.Need-loop-init invariant_loop decreases-loop
+loop-holds : tie.Need-loop-init invariant-loop decreases-loop
 loop-holds c = record { inside = search rules; rest = zero-add _ }
 
-returns : tie.Need-returns invariant_loop decreases-loop
+returns : tie.Need-returns invariant-loop decreases-loop
 unfolding digest_after numbers_in little_endian
 returns c =
     let l = c.before.before.before.before.before.before.before.before.before.loop in
     let below : l.i < length (records_of word c.before.before.before.before.before.before.before.before.before.before.before.before.before.before.args.recorded.now) = let e = length_records word c.before.before.before.before.before.before.before.before.before.before.before.before.before.before.args.recorded.now in omega (arith, c.before.before.before.before.before.before.before.before.loop-test.true) in
     agreeing_differs _ _ _ _ _ l.invariant (cells (answer c.before.before.before.before.before.before.execute-program.result c.before.before.before.before.before.before.execute-program.new.1.1.1.1.1.1.0)) _ _ below (in_cells _ _ _ _ _ c.before.before.before.before.before.before.execute-program.ensures) (rw c.before.before.before.number_at.ensures at c.before.before.digest-after.ensures) c.before.digest-at.ensures c.if1.true
 
-add-i : tie.Need-overflow-add-i invariant_loop decreases-loop
+add-i : tie.Need-overflow-add-i invariant-loop decreases-loop
 add-i c = omega (arith, c.before.before.before.before.before.before.before.before.before.before.before.before.before.before.before.well-formed.1.1.1.1.1.0.0)
 
-loop-again : tie.Need-loop-preserved invariant_loop decreases-loop
+loop-again : tie.Need-loop-preserved invariant-loop decreases-loop
 unfolding digest_after numbers_in little_endian
 loop-again c =
     let l = c.before.before.before.before.before.before.before.before.before.before.loop in
     let below : l.i < length (records_of word c.before.before.before.before.before.before.before.before.before.before.before.before.before.before.before.args.recorded.now) = let e = length_records word c.before.before.before.before.before.before.before.before.before.before.before.before.before.before.before.args.recorded.now in omega (arith, c.before.before.before.before.before.before.before.before.before.loop-test.true) in
     agreeing-next _ _ _ _ _ l.invariant (cells (answer c.before.before.before.before.before.before.before.execute-program.result c.before.before.before.before.before.before.before.execute-program.new.1.1.1.1.1.1.0)) _ _ below (in_cells _ _ _ _ _ c.before.before.before.before.before.before.before.execute-program.ensures) (rw c.before.before.before.before.number_at.ensures at c.before.before.before.digest-after.ensures) c.before.before.digest-at.ensures c.before.if1.false
 
-returns_2 : tie.Need-returns-2 invariant_loop decreases-loop
-returns_2 c =
+returns-2 : tie.Need-returns-2 invariant-loop decreases-loop
+returns-2 c =
     let past : length (records_of word c.before.before.before.before.before.before.args.recorded.now) ≤ c.before.loop.i = let e = length_records word c.before.before.before.before.before.before.args.recorded.now in omega (arith, c.loop-test.false) in
     agreeing_end _ _ _ _ _ c.before.loop.invariant past
 
@@ -49,7 +49,7 @@ pub agreeing_steps_spec : {M : Type 1} → statement M
 agreeing_steps_spec =
     tie.close
     (tie.spec
-    invariant_loop
+    invariant-loop
     decreases-loop
     loop-holds
     (λ c. search rules)
@@ -62,4 +62,4 @@ agreeing_steps_spec =
     add-i
     (λ c. search rules)
     loop-again
-    returns_2)
+    returns-2)

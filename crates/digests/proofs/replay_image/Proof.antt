@@ -12,8 +12,8 @@ returns c =
     let f = c.before.before.before.before.before.before.before.from-binary.ensures in
     record { answers = refused_is _ _ _ _ _ _ _ _ c.before.did.given.1 f.answers; insts-are = f.insts-are; labels-are = f.labels-are }
 
-returns_2 : tie.Need-returns-2
-returns_2 c =
+returns-2 : tie.Need-returns-2
+returns-2 c =
     let f = c.before.before.before.before.before.before.before.before.before.before.before.before.from-binary.ensures in
     record { answers = accepted_is _ _ _ _ _ _ _ _ _ _ _ _ c.before.before.before.before.before.before.did2.given.1 f.answers c.before.before.fresh.ensures c.before.agreeing-steps.ensures (rw (eq-eqb _ _ c.if1.true, length_records word)); insts-are = f.insts-are; labels-are = f.labels-are }
 
@@ -36,7 +36,7 @@ replay_image_spec =
     returns
     (λ c. search rules)
     (λ c. search rules)
-    returns_2
+    returns-2
     (λ c. search rules)
     (λ c. search rules)
     returns-3)

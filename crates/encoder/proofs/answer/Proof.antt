@@ -10,9 +10,9 @@ returns : tie.Need-returns
 unfolding means
 returns c n f = sym (past_room n _ (f.past c.if1.true))
 
-returns_2 : tie.Need-returns-2
+returns-2 : tie.Need-returns-2
 unfolding means
-returns_2 c n f = room_fits _ n _ f c.before.if1.false
+returns-2 c n f = room_fits _ n _ f c.before.if1.false
 
 pub answer_spec : {M : Type 1} → statement M
-answer_spec = tie.close (tie.spec returns (λ c. search rules) returns_2)
+answer_spec = tie.close (tie.spec returns (λ c. search rules) returns-2)

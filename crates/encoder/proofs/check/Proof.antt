@@ -12,60 +12,60 @@ use Rattle.encoder.proofs.Records.{Checked, checked-none, checked-ill, checked-n
 use Rattle.encoder.proofs.check.Statement.{statement}
 use Rattle.encoder.proofs.check.Tie as tie
 
-abbrev invariant_loop : tie.invariant-loop
-invariant_loop forms image insts count room r₀ i₀ r i = Checked image (insts_of insts) count room r i
+abbrev invariant-loop : tie.invariant-loop
+invariant-loop forms image insts count room r₀ i₀ r i = Checked image (insts_of insts) count room r i
 
 abbrev decreases-loop : tie.decreases-loop
 decreases-loop forms image insts count room r₀ i₀ r i = count - i
 
-returns : tie.Need-returns invariant_loop decreases-loop
+returns : tie.Need-returns invariant-loop decreases-loop
 unfolding means in_room
 returns c =
     let s = c.before.before.before in
     let l = length_records inst s.args.insts.now in
     rw (past s.args.image.now (insts_of s.args.insts.now) s.args.count (omega arith))
 
-loop-holds : tie.Need-loop-init invariant_loop decreases-loop
+loop-holds : tie.Need-loop-init invariant-loop decreases-loop
 loop-holds c =
     let s = c.before.before.before in
     let l = length_records inst s.args.insts.now in
     checked-none _ _ _ _ (omega arith)
 
-inst-at-requires : tie.Need-inst-at-requires invariant_loop decreases-loop
+inst-at-requires : tie.Need-inst-at-requires invariant-loop decreases-loop
 inst-at-requires c κs =
     let s = c.before.before.before.before.before in
     let l = length_records inst s.args.insts.now in
     let w = c.before.loop.invariant.within in
     omega arith
 
-returns_2 : tie.Need-returns-2 invariant_loop decreases-loop
+returns-2 : tie.Need-returns-2 invariant-loop decreases-loop
 unfolding means in_room
-returns_2 c =
+returns-2 c =
     let w = ill_len _ _ _ c.before.checked-len.ensures (size-some _ _) c.if2.true in
     rw (checked-ill _ _ _ _ _ _ c.before.before.before.before.loop.invariant _ c.before.before.before.loop-test.true c.before.before.inst-at.ensures w)
 
-loop-again : tie.Need-loop-preserved invariant_loop decreases-loop
+loop-again : tie.Need-loop-preserved invariant-loop decreases-loop
 loop-again c =
     let w = well_len _ _ _ c.before.before.checked-len.ensures c.before.if2.false in
     checked-next _ _ _ _ _ _ c.before.before.before.before.before.loop.invariant _ _ _ c.before.before.before.before.loop-test.true c.before.before.before.inst-at.ensures w.0 w.1 c.taken.ensures
 
-answer-requires : tie.Need-answer-requires invariant_loop decreases-loop
+answer-requires : tie.Need-answer-requires invariant-loop decreases-loop
 answer-requires c κs = c.before.loop.invariant.fits.inside
 
-returns-3 : tie.Need-returns-3 invariant_loop decreases-loop
+returns-3 : tie.Need-returns-3 invariant-loop decreases-loop
 returns-3 c = checked_all _ _ _ _ _ _ c.before.before.loop.invariant _ c.before.loop-test.false c.answer.ensures
 
 pub check_spec : {M : Type 1} → statement M
 check_spec =
     tie.close
     (tie.spec
-    invariant_loop
+    invariant-loop
     decreases-loop
     returns
     loop-holds
     inst-at-requires
     (λ c κs. search rules)
-    returns_2
+    returns-2
     (λ c κs. search rules)
     (λ c. search rules)
     (λ c. search rules)

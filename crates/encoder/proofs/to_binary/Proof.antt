@@ -23,9 +23,9 @@ write-requires c κs =
     let a = accepted _ _ _ _ _ h in
     (c.before.before.before.before.before.before.before.form-table.ensures, (a.within, (a.well, a.fits)))
 
-returns_2 : tie.Need-returns-2
+returns-2 : tie.Need-returns-2
 unfolding means encode output_after
-returns_2 c =
+returns-2 c =
     let h = rw c.before.before.before.before.before.before.answer.given.1 at c.before.before.before.before.before.before.before.before.check.ensures in
     (h, c.before.before.write.ensures ∙ rw (← h))
 
@@ -40,4 +40,4 @@ to_binary_spec =
     returns
     write-requires
     (λ c. search rules)
-    returns_2)
+    returns-2)

@@ -28,8 +28,8 @@ greater a b h =
 returns : tie.Need-returns
 returns c = equal _ _ c.before.if1.true (eq-eqb _ _ c.if2.true)
 
-returns_2 : tie.Need-returns-2
-returns_2 c = equal _ _ c.before.if1.true (ne_eqb _ _ c.if2.false)
+returns-2 : tie.Need-returns-2
+returns-2 c = equal _ _ c.before.if1.true (ne_eqb _ _ c.if2.false)
 
 returns-3 : tie.Need-returns-3
 returns-3 c = less _ _ c.before.if3.true (eq-eqb _ _ c.if4.true)
@@ -50,7 +50,7 @@ cmp_spec =
     (λ c. search rules)
     (λ c. search rules)
     returns
-    returns_2
+    returns-2
     returns-3
     returns-4
     returns-5)

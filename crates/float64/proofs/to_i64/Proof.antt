@@ -16,8 +16,8 @@ truncating-f64-to-i64-requires c κs = (subst T (sym c.before.if2.true) tt, subs
 returns : tie.Need-returns
 returns c = nan_whole c.before.before.args.a (sym c.before.is_nan.ensures ∙ c.if1.true)
 
-returns_2 : tie.Need-returns-2
-returns_2 c =
+returns-2 : tie.Need-returns-2
+returns-2 c =
     let e = c.truncating-f64-to-i64.ensures in
     to_z-of_z w64 c.truncating-f64-to-i64.result (sfits_of (subst (λ (z : ℤ). mag z < 2 ^ 63) (sym e) (to_signed_in 63 _))) ∙ e ∙ signed_of c.before.before.before.before.before.before.args.a c.before.before.before.value.ensures
 
@@ -32,4 +32,4 @@ returns-4 c = low _ (nan_of c.before.before.before.before.args.a c.before.value.
 pub to_i64_spec : {M : Type 1} → statement M
 to_i64_spec =
     tie.close
-    (tie.spec (λ c κs. search rules) returns (λ c κs. search rules) truncating-f64-to-i64-requires returns_2 returns-3 returns-4)
+    (tie.spec (λ c κs. search rules) returns (λ c κs. search rules) truncating-f64-to-i64-requires returns-2 returns-3 returns-4)

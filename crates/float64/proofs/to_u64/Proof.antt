@@ -12,13 +12,13 @@ truncating-f64-to-u64-requires c κs = (subst T (sym c.before.if1.true) tt, subs
 returns : tie.Need-returns
 returns c = c.truncating-f64-to-u64.ensures ∙ unsigned_of c.before.before.before.before.args.a c.before.before.before.value.ensures
 
-returns_2 : tie.Need-returns-2
+returns-2 : tie.Need-returns-2
 unfolding of_bits neg
-returns_2 c = high_unsigned _ c.before.if1.true c.if2.false ∙ unsigned_of c.before.before.before.args.a c.before.before.value.ensures
+returns-2 c = high_unsigned _ c.before.if1.true c.if2.false ∙ unsigned_of c.before.before.before.args.a c.before.before.value.ensures
 
 returns-3 : tie.Need-returns-3
 unfolding of_bits neg
 returns-3 c = low_unsigned _ c.if1.false ∙ unsigned_of c.before.before.args.a c.before.value.ensures
 
 pub to_u64_spec : {M : Type 1} → statement M
-to_u64_spec = tie.close (tie.spec (λ c κs. search rules) truncating-f64-to-u64-requires returns returns_2 returns-3)
+to_u64_spec = tie.close (tie.spec (λ c κs. search rules) truncating-f64-to-u64-requires returns returns-2 returns-3)

@@ -2,7 +2,7 @@
 use Rattle.std.proofs.Common.{◌≡◌, Bool, not, T, sym, refl, ◌∙◌, subst, rules}
 use lib.Ieee.{binary64, nan, div, of_bits}
 use lib.Ieee.Bits.{nan_bits_above}
-use Rattle.float64.proofs.Decode.{not_a_number}
+use Rattle.float64.proofs.Decode.{not-a-number}
 use Rattle.float64.proofs.value.Statement.{statement}
 use Rattle.float64.proofs.value.Tie as tie
 
@@ -12,7 +12,7 @@ zero_by_zero = refl
 
 returns : tie.Need-returns
 returns c =
-    zero_by_zero ∙ sym (not_a_number c.before.before.args.a (sym c.before.is_nan.ensures ∙ c.if1.true))
+    zero_by_zero ∙ sym (not-a-number c.before.before.args.a (sym c.before.is_nan.ensures ∙ c.if1.true))
 
 float-from-bits-result : tie.Need-float-from-bits-result
 float-from-bits-result c =

@@ -10,9 +10,9 @@ returns : tie.Need-returns
 unfolding applied
 returns c = simp c.before.match.keys1 c.add.ensures
 
-returns_2 : tie.Need-returns-2
+returns-2 : tie.Need-returns-2
 unfolding applied
-returns_2 c = simp c.before.match.keys2 c.sub.ensures
+returns-2 c = simp c.before.match.keys2 c.sub.ensures
 
 returns-3 : tie.Need-returns-3
 unfolding applied
@@ -56,7 +56,7 @@ float64_apply_spec =
     (λ c κs. search rules)
     (λ c κs. search rules)
     returns
-    returns_2
+    returns-2
     returns-3
     returns-4
     returns-5

@@ -22,9 +22,9 @@ returns c =
 cast-op : tie.Need-overflow-cast-op
 cast-op c = omega (arith, c.shared-slice-known2.given c.before.before.before.args.at)
 
-returns_2 : tie.Need-returns-2
+returns-2 : tie.Need-returns-2
 unfolding means read_operand
-returns_2 c =
+returns-2 c =
     sym (from_operand _ _ none c.before.before.before.if1.false (is_form _ _ 45 c.before.form.ensures c.match.keys1))
 
 returns-3 : tie.Need-returns-3
@@ -56,7 +56,7 @@ decode_spec =
     (λ c κs. search rules)
     (λ c κs. search rules)
     (λ c κs. search rules)
-    returns_2
+    returns-2
     returns-3
     returns-4
     returns-5

@@ -10,9 +10,9 @@ returns : tie.Need-returns
 unfolding is_negative
 returns c = let h : c.before.args.field < 2 ^ 63 = omega arith in simp (lt-leb _ _ h)
 
-returns_2 : tie.Need-returns-2
+returns-2 : tie.Need-returns-2
 unfolding is_negative
-returns_2 c = let h : 2 ^ 63 ≤ c.before.args.field = omega arith in simp (le-leb _ _ h)
+returns-2 c = let h : 2 ^ 63 ≤ c.before.args.field = omega arith in simp (le-leb _ _ h)
 
 pub is_negative_spec : {M : Type 1} → statement M
-is_negative_spec = tie.close (tie.spec returns returns_2)
+is_negative_spec = tie.close (tie.spec returns returns-2)

@@ -15,12 +15,12 @@ returns c =
     let h : length s.args.image.now < s.args.at + 9 = omega arith in
     simp (lt-ltb _ _ h)
 
-returns_2 : tie.Need-returns-2
+returns-2 : tie.Need-returns-2
 unfolding means read_operand
-returns_2 c =
+returns-2 c =
     let s = c.before.before.before in
     let h : s.args.at + 9 ≤ length s.args.image.now = omega arith in
     simp (le-ltb _ _ h, ← c.word_at.ensures)
 
 pub read_eight_spec : {M : Type 1} → statement M
-read_eight_spec = tie.close (tie.spec (λ c. search rules) returns (λ c. search rules) (λ c κs. search rules) returns_2)
+read_eight_spec = tie.close (tie.spec (λ c. search rules) returns (λ c. search rules) (λ c κs. search rules) returns-2)

@@ -13,9 +13,9 @@ returns : tie.Need-returns
 unfolding means read_name
 returns c = simp (← c.before.is_negative.ensures, c.if1.true)
 
-returns_2 : tie.Need-returns-2
+returns-2 : tie.Need-returns-2
 unfolding means read_name
-returns_2 c =
+returns-2 c =
     let s = c.before.before.before.before in
     let h : length s.args.image.now < s.args.at + 9 + s.args.field % 2 ^ 48 = omega arith in
     simp (← c.before.before.is_negative.ensures, c.before.if1.false, lt-ltb _ _ h)
@@ -42,7 +42,7 @@ read_name_spec =
     returns
     (λ c. search rules)
     (λ c. search rules)
-    returns_2
+    returns-2
     (λ c. search rules)
     (λ c. search rules)
     (λ c. search rules)

@@ -18,9 +18,9 @@ returns c =
 cast-t10 : tie.Need-overflow-cast-t10
 cast-t10 c = omega (arith, c.shared-slice-known2.given (c.before.before.before.before.args.at + 1))
 
-returns_2 : tie.Need-returns-2
+returns-2 : tie.Need-returns-2
 unfolding means read_operand
-returns_2 c =
+returns-2 c =
     let s = c.before.before.before.before in
     let h : s.args.at + 2 ≤ length s.args.image.now = omega arith in
     simp (le-ltb _ _ h, ← c.before.type-of.ensures)
@@ -28,4 +28,4 @@ returns_2 c =
 pub read_one_spec : {M : Type 1} → statement M
 read_one_spec =
     tie.close
-    (tie.spec (λ c. search rules) returns (λ c κs. search rules) (λ c. search rules) (λ c. search rules) cast-t10 returns_2)
+    (tie.spec (λ c. search rules) returns (λ c κs. search rules) (λ c. search rules) (λ c. search rules) cast-t10 returns-2)

@@ -8,9 +8,9 @@ returns : tie.Need-returns
 unfolding type_of
 returns c = simp (eq-eqb _ _ c.if1.true)
 
-returns_2 : tie.Need-returns-2
+returns-2 : tie.Need-returns-2
 unfolding type_of
-returns_2 c = simp (ne_eqb _ _ c.if1.false)
+returns-2 c = simp (ne_eqb _ _ c.if1.false)
 
 pub type_of_spec : {M : Type 1} → statement M
-type_of_spec = tie.close (tie.spec returns returns_2)
+type_of_spec = tie.close (tie.spec returns returns-2)

@@ -47,9 +47,9 @@ add-result-4 c =
     let g = s.well-formed.0 in
     omega arith
 
-returns_2 : tie.Need-returns-2
+returns-2 : tie.Need-returns-2
 unfolding head_size
-returns_2 c = len_is _ _ _ (sym (formed c.before.before.before.before.before.args.image.now c.before.before.before.before.before.args.inst _ _ c.before.before.before.form.ensures c.before.before.has-form.ensures) ∙ not-false _ c.before.if1.false) (simp (is_form _ _ 56 c.before.before.before.form.ensures c.match.keys1))
+returns-2 c = len_is _ _ _ (sym (formed c.before.before.before.before.before.args.image.now c.before.before.before.before.before.args.inst _ _ c.before.before.before.form.ensures c.before.before.has-form.ensures) ∙ not-false _ c.before.if1.false) (simp (is_form _ _ 56 c.before.before.before.form.ensures c.match.keys1))
 
 returns-3 : tie.Need-returns-3
 unfolding head_size
@@ -73,7 +73,7 @@ checked_len_spec =
     add-result-2
     add-result-3
     add-result-4
-    returns_2
+    returns-2
     returns-3
     returns-4
     returns-5)

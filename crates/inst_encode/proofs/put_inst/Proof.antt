@@ -66,9 +66,9 @@ returns c =
 same-length-2 : tie.Need-same-length-2
 same-length-2 c = simp (c.before.before.put-number2.ensures, length-sets, length-set)
 
-returns_2 : tie.Need-returns-2
+returns-2 : tie.Need-returns-2
 unfolding operand_bytes bytes_of
-returns_2 c =
+returns-2 c =
     let s = c.before.before.before.before.before.before.before.before.before in
     let a = bytes_are s.args.image.now s.args.inst one (is_form _ _ 49 c.before.before.before.before.before.form.ensures c.before.before.before.before.match.keys2) in
     (sym (ap length a), stored_first _ _ _ _ _ _ a c.before.before.put-number2.ensures)
@@ -107,7 +107,7 @@ put_inst_spec =
     same_length
     returns
     same-length-2
-    returns_2
+    returns-2
     same-length-3
     returns-3
     (λ c. search rules)

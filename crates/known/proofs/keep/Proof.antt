@@ -7,8 +7,8 @@ use Rattle.known.proofs.keep.Tie as tie
 returns : tie.Need-returns
 returns c = record { keys-are = simp (lt-ltb _ _ c.if1.true) }
 
-returns_2 : tie.Need-returns-2
-returns_2 c = record { keys-are = simp (le-ltb _ _ c.if1.false) }
+returns-2 : tie.Need-returns-2
+returns-2 c = record { keys-are = simp (le-ltb _ _ c.if1.false) }
 
 pub keep_spec : {M : Type 1} → statement M
-keep_spec = tie.close (tie.spec (λ c. search rules) (λ c. search rules) returns returns_2)
+keep_spec = tie.close (tie.spec (λ c. search rules) (λ c. search rules) returns returns-2)

@@ -8,8 +8,8 @@ use Rattle.known.proofs.keep_jump.Tie as tie
 returns : tie.Need-returns
 returns c = is_target c.before.before.found.given.1 (simp (lt-ltb _ _ c.before.before.before.before.if1.true, lt-ltb _ _ c.if2.true), simp (lt-ltb _ _ c.before.before.before.before.if1.true, lt-ltb _ _ c.if2.true))
 
-returns_2 : tie.Need-returns-2
-returns_2 c = is_target c.before.before.found.given.1 (simp (lt-ltb _ _ c.before.before.before.before.if1.true, le-ltb _ _ c.if2.false), simp (lt-ltb _ _ c.before.before.before.before.if1.true, le-ltb _ _ c.if2.false))
+returns-2 : tie.Need-returns-2
+returns-2 c = is_target c.before.before.found.given.1 (simp (lt-ltb _ _ c.before.before.before.before.if1.true, le-ltb _ _ c.if2.false), simp (lt-ltb _ _ c.before.before.before.before.if1.true, le-ltb _ _ c.if2.false))
 
 returns-3 : tie.Need-returns-3
 returns-3 c = no_target _ c.match.keys2
@@ -28,6 +28,6 @@ keep_jump_spec =
     (λ c. search rules)
     (λ c. search rules)
     returns
-    returns_2
+    returns-2
     returns-3
     returns-4)

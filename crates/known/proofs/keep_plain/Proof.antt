@@ -15,8 +15,8 @@ returns c = record { keys-are = rw (plain_is c.before.before.before.before.befor
 keep-requires : tie.Need-keep-requires
 keep-requires c κs = omega (arith, c.before.before.before.before.before.number_at.ensures, typ_byte _ (inst_of c.before.before.before.before.before.before.before.before.args.insts.now c.before.before.before.before.before.before.before.before.args.at) (sym c.before.before.is-well-formed-at.ensures ∙ c.before.if2.true))
 
-returns_2 : tie.Need-returns-2
-returns_2 c = record { keys-are = rw (plain_is c.before.before.before.before.before.before.before.before.before.args.image.now c.before.before.before.before.before.before.before.before.before.args.insts.now c.before.before.before.before.before.before.before.before.before.args.at false (rw (← c.before.before.before.before.before.before.number_at.ensures) (sym c.before.before.before.before.before.looks-up.ensures ∙ c.before.before.before.before.if1.false)), sym c.before.before.before.is-well-formed-at.ensures ∙ c.before.before.if2.true, ← c.before.before.before.before.before.before.number_at.ensures) c.keep.ensures.keys-are }
+returns-2 : tie.Need-returns-2
+returns-2 c = record { keys-are = rw (plain_is c.before.before.before.before.before.before.before.before.before.args.image.now c.before.before.before.before.before.before.before.before.before.args.insts.now c.before.before.before.before.before.before.before.before.before.args.at false (rw (← c.before.before.before.before.before.before.number_at.ensures) (sym c.before.before.before.before.before.looks-up.ensures ∙ c.before.before.before.before.if1.false)), sym c.before.before.before.is-well-formed-at.ensures ∙ c.before.before.if2.true, ← c.before.before.before.before.before.before.number_at.ensures) c.keep.ensures.keys-are }
 
 returns-3 : tie.Need-returns-3
 returns-3 c = record { keys-are = rw (plain_is c.before.before.before.before.before.before.before.args.image.now c.before.before.before.before.before.before.before.args.insts.now c.before.before.before.before.before.before.before.args.at false (rw (← c.before.before.before.before.number_at.ensures) (sym c.before.before.before.looks-up.ensures ∙ c.before.before.if1.false)), sym c.before.is-well-formed-at.ensures ∙ c.if2.false) refl }
@@ -31,5 +31,5 @@ keep_plain_spec =
     returns
     (λ c κs. search rules)
     keep-requires
-    returns_2
+    returns-2
     returns-3)

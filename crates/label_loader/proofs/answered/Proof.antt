@@ -8,9 +8,9 @@ returns : tie.Need-returns
 unfolding numbers_of
 returns c = rw c.before.loading.given.1
 
-returns_2 : tie.Need-returns-2
+returns-2 : tie.Need-returns-2
 unfolding numbers_of
-returns_2 c = rw c.before.loading2.given.1
+returns-2 c = rw c.before.loading2.given.1
 
 pub answered_spec : {M : Type 1} → statement M
-answered_spec = tie.close (tie.spec (λ c. search rules) (λ c. search rules) returns (λ c. search rules) returns_2)
+answered_spec = tie.close (tie.spec (λ c. search rules) (λ c. search rules) returns (λ c. search rules) returns-2)

@@ -9,8 +9,8 @@ use Rattle.lookup.proofs.begin.Tie as tie
 returns : tie.Need-returns
 returns c insts labels count e = begins _ _ _ _ (sym c.before.before.name_in.ensures ∙ c.before.if1.true) e c.if2.true
 
-returns_2 : tie.Need-returns-2
-returns_2 c insts labels count e = rw c.answers.ensures (over _ _ _ _ (finds _ _ _ _ (sym c.before.before.before.name_in.ensures ∙ c.before.before.if1.true) refl (sym (headless _ c.before.before.before.before.before.args.start c.before.before.before.before.before.args.len (omega (arith, e, c.before.if2.false))))))
+returns-2 : tie.Need-returns-2
+returns-2 c insts labels count e = rw c.answers.ensures (over _ _ _ _ (finds _ _ _ _ (sym c.before.before.before.name_in.ensures ∙ c.before.before.if1.true) refl (sym (headless _ c.before.before.before.before.before.args.start c.before.before.before.before.before.args.len (omega (arith, e, c.before.if2.false))))))
 
 returns-3 : tie.Need-returns-3
 returns-3 c insts labels count e = rw c.answers2.ensures (over _ _ _ _ (no_name _ _ _ _ (sym c.before.before.name_in.ensures ∙ c.before.if1.false) refl))
@@ -18,4 +18,4 @@ returns-3 c insts labels count e = rw c.answers2.ensures (over _ _ _ _ (no_name 
 pub begin_spec : {M : Type 1} → statement M
 begin_spec =
     tie.close
-    (tie.spec (λ c κs. search rules) (λ c κs. search rules) (λ c κs. search rules) returns returns_2 returns-3)
+    (tie.spec (λ c κs. search rules) (λ c κs. search rules) (λ c κs. search rules) returns returns-2 returns-3)

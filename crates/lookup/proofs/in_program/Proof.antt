@@ -6,8 +6,8 @@ use Rattle.lookup.proofs.in_program.Tie as tie
 returns : tie.Need-returns
 returns c = simp (lt-ltb _ _ c.if1.true)
 
-returns_2 : tie.Need-returns-2
-returns_2 c = simp (le-ltb _ _ c.if1.false)
+returns-2 : tie.Need-returns-2
+returns-2 c = simp (le-ltb _ _ c.if1.false)
 
 pub in_program_spec : {M : Type 1} → statement M
-in_program_spec = tie.close (tie.spec returns returns_2)
+in_program_spec = tie.close (tie.spec returns returns-2)

@@ -6,11 +6,11 @@ use Rattle.lookup.proofs.is_head.Tie as tie
 returns : tie.Need-returns
 returns c = simp (eq-eqb _ _ c.before.before.before.if1.true, eq-eqb _ _ c.before.if2.true)
 
-returns_2 : tie.Need-returns-2
-returns_2 c = simp (eq-eqb _ _ c.before.before.if1.true, ne_eqb _ _ c.if2.false)
+returns-2 : tie.Need-returns-2
+returns-2 c = simp (eq-eqb _ _ c.before.before.if1.true, ne_eqb _ _ c.if2.false)
 
 returns-3 : tie.Need-returns-3
 returns-3 c = simp (ne_eqb _ _ c.if1.false)
 
 pub is_head_spec : {M : Type 1} → statement M
-is_head_spec = tie.close (tie.spec returns returns_2 returns-3)
+is_head_spec = tie.close (tie.spec returns returns-2 returns-3)

@@ -9,8 +9,8 @@ use Rattle.lookup.proofs.judge.Tie as tie
 returns : tie.Need-returns
 returns c insts labels e o inv = let g = c.goes_on.ensures _ insts labels _ _ _ (inv.lies o) (head-on _ _ _ _ _ e o inv c.before.before.before.if1.true (sym c.before.before.is_head.ensures ∙ c.before.if2.true)) in record { walks = g.0; falls = g.1 }
 
-returns_2 : tie.Need-returns-2
-returns_2 c insts labels e o inv = rw c.answers.ensures (record { walks = over _ _ _ _ (finds _ _ _ _ (inv.lies o) refl (head-ill _ _ _ _ _ e o inv c.before.before.before.if1.true (sym c.before.before.is_head.ensures ∙ c.before.if2.false))); falls = some_bound _ _ _ _ _ e o inv })
+returns-2 : tie.Need-returns-2
+returns-2 c insts labels e o inv = rw c.answers.ensures (record { walks = over _ _ _ _ (finds _ _ _ _ (inv.lies o) refl (head-ill _ _ _ _ _ e o inv c.before.before.before.if1.true (sym c.before.before.is_head.ensures ∙ c.before.if2.false))); falls = some_bound _ _ _ _ _ e o inv })
 
 matches-requires : tie.Need-matches-requires
 matches-requires c κs = (c.before.before.before.before.before.requires, in_image _ _ _ (sym c.before.name_in.ensures ∙ c.if3.true))
@@ -32,7 +32,7 @@ judge_spec =
     (λ c κs. search rules)
     returns
     (λ c κs. search rules)
-    returns_2
+    returns-2
     (λ c κs. search rules)
     matches-requires
     (λ c κs. search rules)

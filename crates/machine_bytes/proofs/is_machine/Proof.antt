@@ -9,9 +9,9 @@ returns : tie.Need-returns
 unfolding is_machine
 returns c = rw (ne_eqb _ _ c.if1.true)
 
-returns_2 : tie.Need-returns-2
+returns-2 : tie.Need-returns-2
 unfolding is_machine
-returns_2 c = rw (eq-eqb _ _ c.before.if1.false)
+returns-2 c = rw (eq-eqb _ _ c.before.if1.false)
 
 pub is_machine_spec : {M : Type 1} → statement M
-is_machine_spec = tie.close (tie.spec returns (λ c. search rules) returns_2)
+is_machine_spec = tie.close (tie.spec returns (λ c. search rules) returns-2)

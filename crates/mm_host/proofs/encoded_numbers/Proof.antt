@@ -9,9 +9,9 @@ returns : tie.Need-returns
 unfolding means encoded_numbers
 returns c = rw c.before.answer.given.1
 
-returns_2 : tie.Need-returns-2
+returns-2 : tie.Need-returns-2
 unfolding means encoded_numbers
-returns_2 c = rw c.before.answer2.given.1
+returns-2 c = rw c.before.answer2.given.1
 
 pub encoded_numbers_spec : {M : Type 1} → statement M
-encoded_numbers_spec = tie.close (tie.spec (λ c. search rules) (λ c. search rules) returns (λ c. search rules) returns_2)
+encoded_numbers_spec = tie.close (tie.spec (λ c. search rules) (λ c. search rules) returns (λ c. search rules) returns-2)

@@ -10,8 +10,8 @@ returns : tie.Need-returns
 unfolding load_call
 returns c = rw (ne_eqb _ _ c.if1.true)
 
-returns_2 : tie.Need-returns-2
-returns_2 c = load-refused _ _ _ _ _ _ _ c.before.before.before.before.before.before.before.before.before.before.if1.false c.before.before.before.before.before.before.before.from-binary.ensures _ c.before.answer.given.1
+returns-2 : tie.Need-returns-2
+returns-2 c = load-refused _ _ _ _ _ _ _ c.before.before.before.before.before.before.before.before.before.before.if1.false c.before.before.before.before.before.before.before.from-binary.ensures _ c.before.answer.given.1
 
 returns-3 : tie.Need-returns-3
 returns-3 c = load-accepted _ _ _ _ _ _ _ c.before.before.before.before.before.before.before.before.before.before.before.before.before.before.before.if1.false c.before.before.before.before.before.before.before.before.before.before.before.before.from-binary.ensures _ _ _ _ c.before.before.before.before.before.before.answer2.given.1 c.before.before.before.before.fresh.ensures c.before.before.write-machine.ensures
@@ -26,7 +26,7 @@ mm_load_spec =
     (λ c. search rules)
     (λ c. search rules)
     (λ c. search rules)
-    returns_2
+    returns-2
     (λ c. search rules)
     (λ c κs. search rules)
     (λ c κs. search rules)

@@ -11,9 +11,9 @@ returns : tie.Need-returns
 unfolding as_u64 value
 returns c = rw (le-leb _ _ c.before.if1.true) (negated _ _ (search rules) c.wrapping-sub-u64.ensures)
 
-returns_2 : tie.Need-returns-2
+returns-2 : tie.Need-returns-2
 unfolding as_u64 value modulo64
-returns_2 c = rw (lt-leb _ _ c.if1.false) (omega arith)
+returns-2 c = rw (lt-leb _ _ c.if1.false) (omega arith)
 
 pub as_u64_spec : {M : Type 1} → statement M
-as_u64_spec = tie.close (tie.spec (λ c κs. search rules) returns returns_2)
+as_u64_spec = tie.close (tie.spec (λ c κs. search rules) returns returns-2)

@@ -14,9 +14,9 @@ returns : tie.Need-returns
 unfolding tagged
 returns c = of_tag _ 1 (sym c.before.before.is_nan.ensures ∙ c.before.if1.true) c.match.keys1
 
-returns_2 : tie.Need-returns-2
+returns-2 : tie.Need-returns-2
 unfolding tagged
-returns_2 c = of_tag _ 2 (sym c.before.before.is_nan.ensures ∙ c.before.if1.true) c.match.keys2
+returns-2 c = of_tag _ 2 (sym c.before.before.is_nan.ensures ∙ c.before.if1.true) c.match.keys2
 
 returns-3 : tie.Need-returns-3
 unfolding tagged
@@ -43,4 +43,4 @@ returns-7 c = let e = sym c.before.is_nan.ensures ∙ c.if1.false in simp e
 
 pub get_type_spec : {M : Type 1} → statement M
 get_type_spec =
-    tie.close (tie.spec (λ c κs. search rules) returns returns_2 returns-3 returns-4 returns-5 returns-6 returns-7)
+    tie.close (tie.spec (λ c κs. search rules) returns returns-2 returns-3 returns-4 returns-5 returns-6 returns-7)

@@ -14,9 +14,9 @@ returns : tie.Need-returns
 unfolding value
 returns c = rw (le-leb _ _ c.if1.true) (negation (c.before.args.cell % 2 ^ 48) (search rules)).is
 
-returns_2 : tie.Need-returns-2
+returns-2 : tie.Need-returns-2
 unfolding value
-returns_2 c = rw (lt-leb _ _ c.if1.false) (kept_is (pos _) (search rules))
+returns-2 c = rw (lt-leb _ _ c.if1.false) (kept_is (pos _) (search rules))
 
 pub get_value_spec : {M : Type 1} → statement M
-get_value_spec = tie.close (tie.spec (λ c. search rules) sub-result returns returns_2)
+get_value_spec = tie.close (tie.spec (λ c. search rules) sub-result returns returns-2)

@@ -39,8 +39,8 @@ returns c =
     let h = c.before.ranges.v.sfits in
     rw (flipped v h c.if1.true) (boxed_below _ v (mag v) (below v h c.if1.true))
 
-returns_2 : tie.Need-returns-2
-returns_2 c =
+returns-2 : tie.Need-returns-2
+returns-2 c =
     let v = c.before.args.v in
     let h = c.before.ranges.v.sfits in
     rw (straight v h c.if1.false) (boxed_above _ v (mag v) (above v h c.if1.false))
@@ -59,4 +59,4 @@ set_value_spec =
     cast-result
     (λ c. search rules)
     returns
-    returns_2)
+    returns-2)

@@ -16,13 +16,13 @@ returns c = rw (lt-ltb _ _ c.if1.true)
 back : (n : ℕ) → n < 2 ^ 64 → suc (0xFFFFFFFFFFFFFFFF - n) ≡ 2 ^ 64 - n
 back n h = omega arith
 
-returns_2 : tie.Need-returns-2
+returns-2 : tie.Need-returns-2
 unfolding signed
-returns_2 c =
+returns-2 c =
     let n = c.before.args.n in
     rw (le-ltb _ _ c.if1.false)
     ((complement (pos (0xFFFFFFFFFFFFFFFF - n)) (search rules)).is ∙ ap (λ (k : ℕ). neg_ℤ (pos k)) (back n (search rules)))
 
 pub signed_spec : {M : Type 1} → statement M
 signed_spec =
-    tie.close (tie.spec (λ c. search rules) (λ c. search rules) (λ c. search rules) sub-result-2 returns returns_2)
+    tie.close (tie.spec (λ c. search rules) (λ c. search rules) (λ c. search rules) sub-result-2 returns returns-2)

@@ -11,8 +11,8 @@ returns : tie.Need-returns
 unfolding call call_to ◌must◌else◌then◌ moved with_calls
 returns c s me = record { holds = (simp (lt-ltb _ _ c.before.before.if1.true, c.wide.ensures), search rules) }
 
-returns_2 : tie.Need-returns-2
-returns_2 c s me = record { holds = (refl, refl, refl) }
+returns-2 : tie.Need-returns-2
+returns-2 c s me = record { holds = (refl, refl, refl) }
 
 pub call_known_spec : {M : Type 1} → statement M
 call_known_spec =
@@ -26,4 +26,4 @@ call_known_spec =
     (λ c κs. search rules)
     (λ c. search rules)
     returns
-    returns_2)
+    returns-2)

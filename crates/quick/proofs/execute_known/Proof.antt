@@ -21,9 +21,9 @@ returns : tie.Need-returns
 unfolding exec op_of step_at
 returns c found start len finds = as_is (at found _ start len _ _ 0 c.before.match.keys1) (c.next-Known.ensures _ _ _)
 
-returns_2 : tie.Need-returns-2
+returns-2 : tie.Need-returns-2
 unfolding exec op_of step_at
-returns_2 c found start len finds = as_is (at found _ start len _ _ 2 c.before.before.match.keys2) (quickly _ (c.before.pop.ensures _ _ _) c.success.ensures)
+returns-2 c found start len finds = as_is (at found _ start len _ _ 2 c.before.before.match.keys2) (quickly _ (c.before.pop.ensures _ _ _) c.success.ensures)
 
 returns-3 : tie.Need-returns-3
 unfolding exec op_of step_at
@@ -290,7 +290,7 @@ execute_known_spec =
     (λ c κs. search rules)
     (λ c κs. search rules)
     returns
-    returns_2
+    returns-2
     returns-3
     returns-4
     returns-5

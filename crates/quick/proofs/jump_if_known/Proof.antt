@@ -10,10 +10,10 @@ returns : tie.Need-returns
 unfolding jump jump_if moved
 returns c s ca me = as_is (simp (← c.before.before.is_set.ensures, c.before.if1.true)) (c.jump_known.ensures s ca me)
 
-returns_2 : tie.Need-returns-2
+returns-2 : tie.Need-returns-2
 unfolding jump jump_if moved
-returns_2 c s ca me = as_is (simp (← c.before.before.is_set.ensures, c.before.if1.false)) (c.next-Known.ensures s ca me)
+returns-2 c s ca me = as_is (simp (← c.before.before.is_set.ensures, c.before.if1.false)) (c.next-Known.ensures s ca me)
 
 pub jump_if_known_spec : {M : Type 1} → statement M
 jump_if_known_spec =
-    tie.close (tie.spec (λ c κs. search rules) (λ c κs. search rules) (λ c κs. search rules) returns returns_2)
+    tie.close (tie.spec (λ c κs. search rules) (λ c κs. search rules) (λ c κs. search rules) returns returns-2)

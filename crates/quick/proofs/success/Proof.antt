@@ -8,9 +8,9 @@ returns : tie.Need-returns
 unfolding success_of
 returns c = simp c.before.answer.given.1
 
-returns_2 : tie.Need-returns-2
+returns-2 : tie.Need-returns-2
 unfolding success_of
-returns_2 c = simp c.before.answer2.given.1
+returns-2 c = simp c.before.answer2.given.1
 
 returns-3 : tie.Need-returns-3
 unfolding success_of
@@ -39,7 +39,7 @@ success_spec =
     (λ c. search rules)
     (λ c. search rules)
     returns
-    returns_2
+    returns-2
     returns-3
     returns-4
     returns-5

@@ -9,9 +9,9 @@ returns : tie.Need-returns
 unfolding Fits
 returns c = tt
 
-returns_2 : tie.Need-returns-2
+returns-2 : tie.Need-returns-2
 unfolding Fits
-returns_2 c = tt
+returns-2 c = tt
 
 returns-3 : tie.Need-returns-3
 unfolding Fits
@@ -31,7 +31,7 @@ parse_accepted_spec =
     (λ c. search rules)
     (λ c κs. search rules)
     (λ c. search rules)
-    returns_2
+    returns-2
     (λ c. search rules)
     (λ c. search rules)
     (λ c. search rules)

@@ -23,8 +23,8 @@ cells-next cells n i h l x e =
     let k : i < length (take n (numbers_in cells)) = rw (front_long cells n h) l in
     rw (e, ← (get_or-take n (numbers_in cells) i 0 l)) (lines_next (take n (numbers_in cells)) i k)
 
-abbrev invariant_loop : tie.invariant-loop
-invariant_loop text₀ at cells n next₀ i₀ text next i =
+abbrev invariant-loop : tie.invariant-loop
+invariant-loop text₀ at cells n next₀ i₀ text next i =
     (i ≤ n)
     × (length text ≡ length text₀)
     × (sets text next (cell_lines (drop i (take n (numbers_in cells)))) ≡ sets text₀ at (cell_lines (take n (numbers_in cells))))
@@ -33,18 +33,18 @@ invariant_loop text₀ at cells n next₀ i₀ text next i =
 abbrev decreases-loop : tie.decreases-loop
 decreases-loop text₀ at cells n next₀ i₀ text next i = n - i
 
-loop-holds : tie.Need-loop-init invariant_loop decreases-loop
+loop-holds : tie.Need-loop-init invariant-loop decreases-loop
 loop-holds c = (search rules, refl, refl, refl)
 
-number-at-requires : tie.Need-number-at-requires invariant_loop decreases-loop
+number-at-requires : tie.Need-number-at-requires invariant-loop decreases-loop
 number-at-requires c κs = omega (arith, c.before.loop-test.true, c.before.before.before.before.before.requires.0)
 
-put-cell-line-requires : tie.Need-put-cell-line-requires invariant_loop decreases-loop
+put-cell-line-requires : tie.Need-put-cell-line-requires invariant-loop decreases-loop
 put-cell-line-requires c κs =
     let e = simp length-append at (ap length (cells-next c.before.before.before.before.before.before.args.cells.now c.before.before.before.before.before.before.args.n c.before.before.before.loop.i c.before.before.before.before.before.before.requires.0 c.before.before.loop-test.true c.number_at.result c.number_at.ensures)) in
     omega (arith, c.before.before.before.loop.invariant.3, c.before.before.before.loop.invariant.1, c.before.before.before.before.before.before.requires.1)
 
-loop-again : tie.Need-loop-preserved invariant_loop decreases-loop
+loop-again : tie.Need-loop-preserved invariant-loop decreases-loop
 loop-again c =
     let next_is = cells-next c.before.before.before.before.before.before.before.before.before.args.cells.now c.before.before.before.before.before.before.before.before.before.args.n c.before.before.before.before.before.before.loop.i c.before.before.before.before.before.before.before.before.before.requires.0 c.before.before.before.before.before.loop-test.true c.before.before.before.number_at.result c.before.before.before.number_at.ensures in
     let e = simp length-append at (ap length next_is) in
@@ -52,7 +52,7 @@ loop-again c =
     let i = c.before.before.before.before.before.before.loop.invariant in
     (search rules, search rules, put_next _ _ _ next_is i.2 p, omega (arith, i.3, p.next-is))
 
-returns : tie.Need-returns invariant_loop decreases-loop
+returns : tie.Need-returns invariant-loop decreases-loop
 returns c =
     let i = c.before.loop.invariant in
     let e = lines_end (take c.before.before.before.before.args.n (numbers_in c.before.before.before.before.args.cells.now)) c.before.loop.i (omega (arith, front_long c.before.before.before.before.args.cells.now c.before.before.before.before.args.n c.before.before.before.before.requires.0, c.loop-test.false)) in
@@ -62,7 +62,7 @@ pub put_cell_lines_spec : {M : Type 1} → statement M
 put_cell_lines_spec =
     tie.close
     (tie.spec
-    invariant_loop
+    invariant-loop
     decreases-loop
     loop-holds
     number-at-requires

@@ -20,9 +20,9 @@ returns : tie.Need-returns
 unfolding ending_text
 returns c = rw c.before.before.before.before.before.enum_told.given.1 c.before.before.put.ensures
 
-returns_2 : tie.Need-returns-2
+returns-2 : tie.Need-returns-2
 unfolding ending_text
-returns_2 c = rw c.before.before.before.before.before.enum-told2.given.1 c.before.before.put2.ensures
+returns-2 c = rw c.before.before.before.before.before.enum-told2.given.1 c.before.before.put2.ensures
 
 returns-3 : tie.Need-returns-3
 unfolding ending_text
@@ -45,6 +45,6 @@ put_ending_spec =
     (λ c. search rules)
     returns
     (λ c. search rules)
-    returns_2
+    returns-2
     (λ c. search rules)
     returns-3)

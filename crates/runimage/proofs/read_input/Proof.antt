@@ -8,21 +8,21 @@ use Rattle.runimage.specs.Reading.{Fits}
 use Rattle.runimage.proofs.read_input.Statement.{statement}
 use Rattle.runimage.proofs.read_input.Tie as tie
 
-abbrev invariant_loop : tie.invariant-loop
-invariant_loop buffer₀ at₀ buffer at = (at ≤ length buffer) × (length buffer ≡ length buffer₀)
+abbrev invariant-loop : tie.invariant-loop
+invariant-loop buffer₀ at₀ buffer at = (at ≤ length buffer) × (length buffer ≡ length buffer₀)
 
 abbrev decreases-loop : tie.decreases-loop
 decreases-loop buffer₀ at₀ buffer at = length buffer₀ - at
 
-returns : tie.Need-returns invariant_loop decreases-loop
+returns : tie.Need-returns invariant-loop decreases-loop
 unfolding Fits
 returns c = tt
 
-returns_2 : tie.Need-returns-2 invariant_loop decreases-loop
+returns-2 : tie.Need-returns-2 invariant-loop decreases-loop
 unfolding Fits
-returns_2 c = omega arith
+returns-2 c = omega arith
 
-returns-3 : tie.Need-returns-3 invariant_loop decreases-loop
+returns-3 : tie.Need-returns-3 invariant-loop decreases-loop
 unfolding Fits
 returns-3 c = omega arith
 
@@ -30,7 +30,7 @@ pub read_input_spec : {M : Type 1} → statement M
 read_input_spec =
     tie.close
     (tie.spec
-    invariant_loop
+    invariant-loop
     decreases-loop
     (λ c. search rules)
     (λ c. search rules)
@@ -44,7 +44,7 @@ read_input_spec =
     (λ c. search rules)
     (λ c κs. search rules)
     (λ c. search rules)
-    returns_2
+    returns-2
     (λ c. search rules)
     (λ c. search rules)
     (λ c. search rules)

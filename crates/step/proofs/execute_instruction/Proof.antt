@@ -16,9 +16,9 @@ returns : tie.Need-returns
 unfolding exec op_of
 returns c found start len = same (c.push.ensures _ _) (λ f. rw c.before.before.match.keys1 refl)
 
-returns_2 : tie.Need-returns-2
+returns-2 : tie.Need-returns-2
 unfolding exec op_of
-returns_2 c found start len = same (c.pop.ensures _ _ _) (λ f. rw c.before.match.keys2 refl)
+returns-2 c found start len = same (c.pop.ensures _ _ _) (λ f. rw c.before.match.keys2 refl)
 
 returns-3 : tie.Need-returns-3
 unfolding exec op_of
@@ -81,8 +81,8 @@ unfolding exec change.moved
 returns-17 c found start len =
     let op = c.before.before.before.args.op in
     let alone : is_named_alone op ≡ false = simp (ne_eqb _ _ c.before.before.match.rest.0.0.0.0.0.0.0.0.0.0.0.0.1, ne_eqb _ _ c.before.before.match.rest.0.0.0.0.0.0.0.0.0.0.0.1, ne_eqb _ _ c.before.before.match.rest.0.0.0.0.0.0.0.0.0.0.1, ne_eqb _ _ c.before.before.match.rest.0.0.0.0.0.0.0.0.0.1, ne_eqb _ _ c.before.before.match.rest.0.0.0.0.0.0.0.0.1, ne_eqb _ _ c.before.before.match.rest.0.0.0.0.0.0.0.1, ne_eqb _ _ c.before.before.match.rest.0.0.0.0.0.0.1, ne_eqb _ _ c.before.before.match.rest.0.0.0.0.0.1, ne_eqb op 27 (λ e. c.before.before.match.rest.0.0.0.0.1 (inl e)), ne_eqb op 46 (λ e. c.before.before.match.rest.0.0.0.0.1 (inr e)), ne_eqb _ _ c.before.before.match.rest.0.0.0.1, ne_eqb op 38 (λ e. c.before.before.match.rest.0.0.1 (inl e)), ne_eqb op 40 (λ e. c.before.before.match.rest.0.0.1 (inr (inl e))), ne_eqb op 42 (λ e. c.before.before.match.rest.0.0.1 (inr (inr (inl e)))), ne_eqb op 44 (λ e. c.before.before.match.rest.0.0.1 (inr (inr (inr e)))), ne_eqb op 39 (λ e. c.before.before.match.rest.0.1 (inl e)), ne_eqb op 41 (λ e. c.before.before.match.rest.0.1 (inr (inl e))), ne_eqb op 43 (λ e. c.before.before.match.rest.0.1 (inr (inr (inl e)))), ne_eqb op 45 (λ e. c.before.before.match.rest.0.1 (inr (inr (inr e))))) in
-    let in_range : is_named_in_range op ≡ false = ⊎_elim (λ w. simp (below 5 8 op (omega (arith, w.taken)), below 23 26 op (omega (arith, w.taken)), below 31 36 op (omega (arith, w.taken)))) (⊎_elim (λ w. simp (above 5 8 op (omega (arith, w.1.left, w.2.taken)), below 23 26 op (omega (arith, w.1.left, w.2.taken)), below 31 36 op (omega (arith, w.1.left, w.2.taken)))) (⊎_elim (λ w. simp (above 5 8 op (omega (arith, w.3.left, w.4.taken)), above 23 26 op (omega (arith, w.3.left, w.4.taken)), below 31 36 op (omega (arith, w.3.left, w.4.taken)))) (λ w. simp (above 5 8 op (omega (arith, w.5.left)), above 23 26 op (omega (arith, w.5.left)), above 31 36 op (omega (arith, w.5.left)))))) c.before.if1.branch in
-    success c.onward.ensures (λ f. rw (nop_at op c.before.before.match.rest.1 alone in_range c.before.before.before.requires.1) refl) (search rules)
+    let in-range : is_named_in_range op ≡ false = ⊎_elim (λ w. simp (below 5 8 op (omega (arith, w.taken)), below 23 26 op (omega (arith, w.taken)), below 31 36 op (omega (arith, w.taken)))) (⊎_elim (λ w. simp (above 5 8 op (omega (arith, w.1.left, w.2.taken)), below 23 26 op (omega (arith, w.1.left, w.2.taken)), below 31 36 op (omega (arith, w.1.left, w.2.taken)))) (⊎_elim (λ w. simp (above 5 8 op (omega (arith, w.3.left, w.4.taken)), above 23 26 op (omega (arith, w.3.left, w.4.taken)), below 31 36 op (omega (arith, w.3.left, w.4.taken)))) (λ w. simp (above 5 8 op (omega (arith, w.5.left)), above 23 26 op (omega (arith, w.5.left)), above 31 36 op (omega (arith, w.5.left)))))) c.before.if1.branch in
+    success c.onward.ensures (λ f. rw (nop_at op c.before.before.match.rest.1 alone in-range c.before.before.before.requires.1) refl) (search rules)
 
 pub execute_instruction_spec : {M : Type 1} → statement M
 execute_instruction_spec =
@@ -105,7 +105,7 @@ execute_instruction_spec =
     (λ c κs. search rules)
     (λ c κs. search rules)
     returns
-    returns_2
+    returns-2
     returns-3
     returns-4
     returns-5

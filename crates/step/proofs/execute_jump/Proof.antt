@@ -13,9 +13,9 @@ returns c v start len s me =
     let a = c.call.ensures s me in
     record { does = a.does _ ∙ rw c.before.before.if1.true refl; small = a.small; kept = a.kept }
 
-returns_2 : tie.Need-returns-2
+returns-2 : tie.Need-returns-2
 unfolding exec op_of
-returns_2 c v start len s me =
+returns-2 c v start len s me =
     as_is (acted _ _ (c.jump.ensures s c.before.before.before.args.calls.now me)) (rw c.before.if2.true refl)
 
 jump-if-requires : tie.Need-jump-if-requires
@@ -34,6 +34,6 @@ execute_jump_spec =
     (λ c κs. search rules)
     returns
     (λ c κs. search rules)
-    returns_2
+    returns-2
     jump-if-requires
     returns-3)

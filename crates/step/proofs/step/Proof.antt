@@ -20,8 +20,8 @@ use Rattle.step.proofs.step.Tie as tie
 returns : tie.Need-returns
 returns c = record { small = tt; sized = c.before.before.before.requires.1.2; listed = c.before.before.before.requires.1.3; tried = λ labels told. (record { does = step_past _ _ _ _ c.before.before.before.requires.1.1 _ _ _ _ _ c.before.before.before.requires.1.0 c.if1.true; small = tt; kept = (refl, refl, refl) }, λ k. k) }
 
-returns_2 : tie.Need-returns-2
-returns_2 c = record { small = tt; sized = c.before.before.before.before.before.requires.1.2; listed = c.before.before.before.before.before.requires.1.3; tried = λ labels told. (record { does = step_unformed _ _ _ _ c.before.before.before.before.before.requires.1.1 _ _ _ _ _ c.before.before.before.before.before.requires.1.0 c.before.before.if1.false (sym c.before.is-well-formed-at.ensures ∙ not-true _ c.if2.true); small = tt; kept = (refl, refl, refl) }, λ k. k) }
+returns-2 : tie.Need-returns-2
+returns-2 c = record { small = tt; sized = c.before.before.before.before.before.requires.1.2; listed = c.before.before.before.before.before.requires.1.3; tried = λ labels told. (record { does = step_unformed _ _ _ _ c.before.before.before.before.before.requires.1.1 _ _ _ _ _ c.before.before.before.before.before.requires.1.0 c.before.before.if1.false (sym c.before.is-well-formed-at.ensures ∙ not-true _ c.if2.true); small = tt; kept = (refl, refl, refl) }, λ k. k) }
 
 returns-3 : tie.Need-returns-3
 returns-3 c =
@@ -82,7 +82,7 @@ step_spec =
     (tie.spec
     returns
     (λ c κs. search rules)
-    returns_2
+    returns-2
     (λ c. search rules)
     (λ c κs. search rules)
     (λ c κs. search rules)

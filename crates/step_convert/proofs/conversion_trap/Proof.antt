@@ -10,9 +10,9 @@ returns : tie.Need-returns
 unfolding number_of
 returns c = c.float-trap.ensures (sym c.before.before.before.get-type.ensures ∙ c.before.enum_told.given.1)
 
-returns_2 : tie.Need-returns-2
+returns-2 : tie.Need-returns-2
 unfolding number_of
-returns_2 c = c.whole-trap.ensures (simp (sym c.before.before.before.get-type.ensures ∙ c.before.enum-told2.given.1))
+returns-2 c = c.whole-trap.ensures (simp (sym c.before.before.before.get-type.ensures ∙ c.before.enum-told2.given.1))
 
 returns-3 : tie.Need-returns-3
 unfolding number_of
@@ -38,7 +38,7 @@ conversion_trap_spec =
     (λ c. search rules)
     (λ c. search rules)
     returns
-    returns_2
+    returns-2
     returns-3
     returns-4
     returns-5)

@@ -12,9 +12,9 @@ returns : tie.Need-returns
 unfolding moved with_stack
 returns c ca me = success c.onward.ensures (λ f. simp c.before.converted.ensures (sym (convert_does _ _ (lt-ltb _ _ c.before.before.before.before.before.if1.true) _ c.before.before.before.conversion-trap.ensures c.before.before.if2.true))) (search rules)
 
-returns_2 : tie.Need-returns-2
+returns-2 : tie.Need-returns-2
 unfolding moved with_stack
-returns_2 c ca me = trapped c.trap.ensures (λ f. sym (convert-traps _ _ (lt-ltb _ _ c.before.before.before.before.if1.true) _ c.before.before.conversion-trap.ensures c.before.if2.false))
+returns-2 c ca me = trapped c.trap.ensures (λ f. sym (convert-traps _ _ (lt-ltb _ _ c.before.before.before.before.if1.true) _ c.before.before.conversion-trap.ensures c.before.if2.false))
 
 returns-3 : tie.Need-returns-3
 unfolding moved with_stack
@@ -35,5 +35,5 @@ convert_spec =
     (λ c κs. search rules)
     (λ c κs. search rules)
     returns
-    returns_2
+    returns-2
     returns-3)

@@ -12,9 +12,9 @@ returns : tie.Need-returns
 unfolding rule_of
 returns c = simp c.before.before.match.keys1 (c.from-i64.ensures ∙ ap cells.from_i64 (kept_is _ c.before.to-i64.type-inv ∙ c.before.to-i64.ensures))
 
-returns_2 : tie.Need-returns-2
+returns-2 : tie.Need-returns-2
 unfolding rule_of
-returns_2 c = simp (c.before.before.match.keys2, c.from-u64.ensures, c.before.to-u64.ensures)
+returns-2 c = simp (c.before.before.match.keys2, c.from-u64.ensures, c.before.to-u64.ensures)
 
 returns-3 : tie.Need-returns-3
 unfolding rule_of
@@ -48,7 +48,7 @@ converted_spec =
     (λ c κs. search rules)
     (λ c κs. search rules)
     returns
-    returns_2
+    returns-2
     returns-3
     returns-4
     returns-5

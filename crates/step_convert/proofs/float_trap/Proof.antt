@@ -13,9 +13,9 @@ returns : tie.Need-returns
 unfolding conversion_trap rule_of number_of
 returns c e = simp (c.match.keys1, e)
 
-returns_2 : tie.Need-returns-2
+returns-2 : tie.Need-returns-2
 unfolding conversion_trap rule_of number_of
-returns_2 c e = simp (c.before.before.match.keys2, e, ← c.before.is-below-zero.ensures, c.if1.true)
+returns-2 c e = simp (c.before.before.match.keys2, e, ← c.before.is-below-zero.ensures, c.if1.true)
 
 returns-3 : tie.Need-returns-3
 unfolding conversion_trap rule_of number_of
@@ -25,4 +25,4 @@ returns-4 : tie.Need-returns-4
 returns-4 c e = sym (simp (ne_eqb _ _ c.match.rest.1, ne_eqb _ _ c.match.rest.0.1) (late_float _ (eqb c.before.args.op 33) (eqb c.before.args.op 34) (eqb c.before.args.op 35) e))
 
 pub float_trap_spec : {M : Type 1} → statement M
-float_trap_spec = tie.close (tie.spec (λ c κs. search rules) returns returns_2 returns-3 returns-4)
+float_trap_spec = tie.close (tie.spec (λ c κs. search rules) returns returns-2 returns-3 returns-4)

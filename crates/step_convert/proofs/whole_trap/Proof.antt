@@ -13,9 +13,9 @@ returns : tie.Need-returns
 unfolding conversion_trap rule_of
 returns c e = simp (c.match.keys1, whole-known _ e, whole_float _ e)
 
-returns_2 : tie.Need-returns-2
+returns-2 : tie.Need-returns-2
 unfolding conversion_trap rule_of
-returns_2 c e = simp (c.match.keys2, whole-known _ e, whole_float _ e)
+returns-2 c e = simp (c.match.keys2, whole-known _ e, whole_float _ e)
 
 returns-3 : tie.Need-returns-3
 unfolding conversion_trap rule_of
@@ -43,7 +43,7 @@ whole_trap_spec =
     (λ c κs. search rules)
     (λ c κs. search rules)
     returns
-    returns_2
+    returns-2
     returns-3
     returns-4
     returns-5

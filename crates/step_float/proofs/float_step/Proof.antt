@@ -11,9 +11,9 @@ returns : tie.Need-returns
 unfolding float_step ◌must◌else◌then◌ moved with_stack
 returns c ca me = success c.onward.ensures (λ f. simp (le-leb _ _ c.before.before.before.before.if1.true, c.before.of-floats.ensures)) (search rules)
 
-returns_2 : tie.Need-returns-2
+returns-2 : tie.Need-returns-2
 unfolding float_step ◌must◌else◌then◌ moved with_stack
-returns_2 c ca me = trapped c.trap.ensures (λ f. simp (lt-leb _ _ c.before.if1.false))
+returns-2 c ca me = trapped c.trap.ensures (λ f. simp (lt-leb _ _ c.before.if1.false))
 
 pub float_step_spec : {M : Type 1} → statement M
 float_step_spec =
@@ -32,4 +32,4 @@ float_step_spec =
     (λ c κs. search rules)
     (λ c κs. search rules)
     returns
-    returns_2)
+    returns-2)

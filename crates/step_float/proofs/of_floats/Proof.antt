@@ -10,9 +10,9 @@ use Rattle.step_float.proofs.of_floats.Tie as tie
 returns : tie.Need-returns
 returns c = sym (nan_either c.before.before.args.a c.before.before.args.b _ (sym c.before.either-nan.ensures ∙ c.if1.true))
 
-returns_2 : tie.Need-returns-2
+returns-2 : tie.Need-returns-2
 unfolding of_floats
-returns_2 c = simp (c.before.match.keys1, c.add.ensures)
+returns-2 c = simp (c.before.match.keys1, c.add.ensures)
 
 returns-3 : tie.Need-returns-3
 unfolding of_floats
@@ -36,7 +36,7 @@ of_floats_spec =
     (λ c κs. search rules)
     (λ c κs. search rules)
     returns
-    returns_2
+    returns-2
     returns-3
     returns-4
     returns-5)

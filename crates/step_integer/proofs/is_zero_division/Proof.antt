@@ -10,9 +10,9 @@ returns : tie.Need-returns
 unfolding divides
 returns c = simp c.match.keys1
 
-returns_2 : tie.Need-returns-2
+returns-2 : tie.Need-returns-2
 unfolding divides
-returns_2 c = simp c.match.keys2
+returns-2 c = simp c.match.keys2
 
 returns-3 : tie.Need-returns-3
 unfolding divides
@@ -23,4 +23,4 @@ unfolding divides
 returns-4 c = simp (ne_eqb _ _ c.match.rest.1, ne_eqb _ _ c.match.rest.0.1, ne_eqb _ _ c.match.rest.0.0.1, abs_value, not-not)
 
 pub is_zero_division_spec : {M : Type 1} → statement M
-is_zero_division_spec = tie.close (tie.spec returns returns_2 returns-3 returns-4)
+is_zero_division_spec = tie.close (tie.spec returns returns-2 returns-3 returns-4)

@@ -14,9 +14,9 @@ returns : tie.Need-returns
 unfolding of_cells
 returns c = simp (c.before.match.keys1, c.iadd.ensures)
 
-returns_2 : tie.Need-returns-2
+returns-2 : tie.Need-returns-2
 unfolding of_cells
-returns_2 c = simp (c.before.match.keys2, c.isub.ensures)
+returns-2 c = simp (c.before.match.keys2, c.isub.ensures)
 
 returns-3 : tie.Need-returns-3
 unfolding of_cells
@@ -35,6 +35,6 @@ of_cells_spec =
     (λ c κs. search rules)
     idiv-requires
     returns
-    returns_2
+    returns-2
     returns-3
     returns-4)

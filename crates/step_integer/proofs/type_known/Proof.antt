@@ -15,9 +15,9 @@ returns : tie.Need-returns
 unfolding number_of
 returns c = ap told (sym c.enum_told.given.1 ∙ c.before.before.get-type.ensures)
 
-returns_2 : tie.Need-returns-2
+returns-2 : tie.Need-returns-2
 unfolding number_of
-returns_2 c = ap told (sym c.enum-told2.given.1 ∙ c.before.before.get-type.ensures)
+returns-2 c = ap told (sym c.enum-told2.given.1 ∙ c.before.before.get-type.ensures)
 
 returns-3 : tie.Need-returns-3
 unfolding number_of
@@ -42,7 +42,7 @@ type_known_spec =
     (λ c. search rules)
     (λ c. search rules)
     returns
-    returns_2
+    returns-2
     returns-3
     returns-4
     returns-5)

@@ -8,9 +8,9 @@ returns : tie.Need-returns
 unfolding type_trap
 returns c = simp (← c.before.before.before.type-known.ensures, ← c.before.type-known2.ensures, c.before.before.if1.true, c.if2.true)
 
-returns_2 : tie.Need-returns-2
+returns-2 : tie.Need-returns-2
 unfolding type_trap
-returns_2 c = simp (← c.before.before.before.type-known.ensures, ← c.before.type-known2.ensures, c.before.before.if1.true, c.if2.false)
+returns-2 c = simp (← c.before.before.before.type-known.ensures, ← c.before.type-known2.ensures, c.before.before.if1.true, c.if2.false)
 
 returns-3 : tie.Need-returns-3
 unfolding type_trap
@@ -18,4 +18,4 @@ returns-3 c = simp (← c.before.type-known.ensures, c.if1.false)
 
 pub type_trap_spec : {M : Type 1} → statement M
 type_trap_spec =
-    tie.close (tie.spec (λ c κs. search rules) (λ c κs. search rules) returns returns_2 returns-3)
+    tie.close (tie.spec (λ c κs. search rules) (λ c κs. search rules) returns returns-2 returns-3)

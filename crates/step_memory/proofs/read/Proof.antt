@@ -11,9 +11,9 @@ returns : tie.Need-returns
 unfolding read ◌must◌else◌then◌ moved with_stack
 returns c ca = success c.onward.ensures (λ f. simp (lt-ltb _ _ c.before.before.before.before.before.before.if1.true, ← c.before.before.before.before.as-u64.ensures, lt-ltb _ _ c.before.before.before.if2.true, c.before.from-u64.ensures, c.before.before.byte_at.ensures)) (search rules)
 
-returns_2 : tie.Need-returns-2
+returns-2 : tie.Need-returns-2
 unfolding read ◌must◌else◌then◌ moved with_stack
-returns_2 c ca = trapped c.trap.ensures (λ f. simp (lt-ltb _ _ c.before.before.before.before.if1.true, ← c.before.before.as-u64.ensures, le-ltb _ _ c.before.if2.false))
+returns-2 c ca = trapped c.trap.ensures (λ f. simp (lt-ltb _ _ c.before.before.before.before.if1.true, ← c.before.before.as-u64.ensures, le-ltb _ _ c.before.if2.false))
 
 returns-3 : tie.Need-returns-3
 unfolding read ◌must◌else◌then◌ moved with_stack
@@ -37,5 +37,5 @@ read_spec =
     (λ c κs. search rules)
     (λ c κs. search rules)
     returns
-    returns_2
+    returns-2
     returns-3)

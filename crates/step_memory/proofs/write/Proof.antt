@@ -11,9 +11,9 @@ returns : tie.Need-returns
 unfolding write ◌must◌else◌then◌ moved with_stack with_memory
 returns c ca = success c.onward.ensures (λ f. simp (le-leb _ _ c.before.before.before.before.before.before.if1.true, ← c.before.before.before.before.as-u64.ensures, ← c.before.before.as-u642.ensures, lt-ltb _ _ c.before.if2.true)) (search rules)
 
-returns_2 : tie.Need-returns-2
+returns-2 : tie.Need-returns-2
 unfolding write ◌must◌else◌then◌ moved with_stack with_memory
-returns_2 c ca = trapped c.trap.ensures (λ f. simp (le-leb _ _ c.before.before.before.before.before.before.if1.true, ← c.before.before.before.before.as-u64.ensures, le-ltb _ _ c.before.if2.false))
+returns-2 c ca = trapped c.trap.ensures (λ f. simp (le-leb _ _ c.before.before.before.before.before.before.if1.true, ← c.before.before.before.before.as-u64.ensures, le-ltb _ _ c.before.if2.false))
 
 returns-3 : tie.Need-returns-3
 unfolding write ◌must◌else◌then◌ moved with_stack with_memory
@@ -37,5 +37,5 @@ write_spec =
     (λ c κs. search rules)
     (λ c κs. search rules)
     returns
-    returns_2
+    returns-2
     returns-3)

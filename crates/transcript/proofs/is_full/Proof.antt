@@ -8,9 +8,9 @@ returns : tie.Need-returns
 unfolding is_full
 returns c = rw c.enum_told.given.1
 
-returns_2 : tie.Need-returns-2
+returns-2 : tie.Need-returns-2
 unfolding is_full
-returns_2 c = rw c.enum-told2.given.1
+returns-2 c = rw c.enum-told2.given.1
 
 returns-3 : tie.Need-returns-3
 unfolding is_full
@@ -18,4 +18,4 @@ returns-3 c = rw c.before.ending.given.1
 
 pub is_full_spec : {M : Type 1} → statement M
 is_full_spec =
-    tie.close (tie.spec (λ c. search rules) (λ c. search rules) (λ c. search rules) returns returns_2 returns-3)
+    tie.close (tie.spec (λ c. search rules) (λ c. search rules) (λ c. search rules) returns returns-2 returns-3)

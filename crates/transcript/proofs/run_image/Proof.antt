@@ -14,9 +14,9 @@ returns : tie.Need-returns
 unfolding printed
 returns c = refused_put _ _ _ c.before.before.before.before.before.before.before.from-binary.ensures c.before.before.before.did.given.1 c.put-refused-line.ensures
 
-returns_2 : tie.Need-returns-2
+returns-2 : tie.Need-returns-2
 unfolding printed
-returns_2 c = accepted_put _ _ _ c.before.before.before.before.before.before.before.before.before.before.from-binary.ensures c.before.before.before.before.before.before.did2.given.1 c.before.before.fresh.ensures c.print-runs.ensures
+returns-2 c = accepted_put _ _ _ c.before.before.before.before.before.before.before.before.before.before.from-binary.ensures c.before.before.before.before.before.before.did2.given.1 c.before.before.fresh.ensures c.print-runs.ensures
 
 pub run_image_spec : {M : Type 1} → statement M
 run_image_spec =
@@ -33,4 +33,4 @@ run_image_spec =
     (λ c κs. search rules)
     (λ c κs. search rules)
     returns
-    returns_2)
+    returns-2)

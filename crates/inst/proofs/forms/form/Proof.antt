@@ -13,9 +13,9 @@ returns c =
     let op = p.args.op in
     rw p.requires (entry 0 (λ k. letter_of (form_of k)) 256 op c.before.if1.true)
 
-returns_2 : tie.Need-returns-2
+returns-2 : tie.Need-returns-2
 unfolding letter_of
-returns_2 c = rw (no_form c.before.args.op (omega arith))
+returns-2 c = rw (no_form c.before.args.op (omega arith))
 
 pub form_spec : {M : Type 1} → statement M
-form_spec = tie.close (tie.spec (λ c. omega arith) returns returns_2)
+form_spec = tie.close (tie.spec (λ c. omega arith) returns returns-2)

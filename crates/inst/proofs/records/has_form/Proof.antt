@@ -11,9 +11,9 @@ unfolding fits
 returns c =
     simp (c.before.before.match.keys1, eq-eqb _ _ c.before.if1.true, ← c.unused.ensures)
 
-returns_2 : tie.Need-returns-2
+returns-2 : tie.Need-returns-2
 unfolding fits
-returns_2 c =
+returns-2 c =
     simp (c.before.match.keys1, ne_eqb _ _ c.if1.false)
 
 returns-3 : tie.Need-returns-3
@@ -55,7 +55,7 @@ has_form_spec =
     (λ c κs. search rules)
     (λ c κs. search rules)
     returns
-    returns_2
+    returns-2
     returns-3
     returns-4
     returns-5

@@ -16,9 +16,9 @@ returns c =
     let h : length s.args.image.now < s.args.start + s.args.len = omega arith in
     simp (lt-leb _ _ h)
 
-returns_2 : tie.Need-returns-2
+returns-2 : tie.Need-returns-2
 unfolding name_in
-returns_2 c =
+returns-2 c =
     let s = c.before.before.before in
     let h : length s.args.image.now < s.args.start + s.args.len = omega arith in
     simp (lt-leb _ _ h)
@@ -35,7 +35,7 @@ name_in_spec =
     tie.close
     (tie.spec
     returns
-    returns_2
+    returns-2
     (λ c. search rules)
     (λ c. search rules)
     (λ c. search rules)

@@ -6,8 +6,8 @@ use Rattle.inst.proofs.records.unused.Tie as tie
 returns : tie.Need-returns
 returns c = simp (eq-eqb _ _ c.if1.true)
 
-returns_2 : tie.Need-returns-2
-returns_2 c = simp (ne_eqb _ _ c.if1.false)
+returns-2 : tie.Need-returns-2
+returns-2 c = simp (ne_eqb _ _ c.if1.false)
 
 pub unused_spec : {M : Type 1} → statement M
-unused_spec = tie.close (tie.spec returns returns_2)
+unused_spec = tie.close (tie.spec returns returns-2)

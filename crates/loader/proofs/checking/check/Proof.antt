@@ -11,42 +11,42 @@ use Rattle.loader.proofs.Rests.{Checking, checking_begins, checking_next, refuse
 use Rattle.loader.proofs.checking.check.Statement.{statement}
 use Rattle.loader.proofs.checking.check.Tie as tie
 
-abbrev invariant_loop : tie.invariant-loop
-invariant_loop image forms c₀ c = Checking image c
+abbrev invariant-loop : tie.invariant-loop
+invariant-loop image forms c₀ c = Checking image c
 
 abbrev decreases-loop : tie.decreases-loop
 decreases-loop image forms c₀ c = length image - c.at
 
-returns : tie.Need-returns invariant_loop decreases-loop
+returns : tie.Need-returns invariant-loop decreases-loop
 unfolding loads
 returns c = simp (lt-ltb _ _ c.before.if1.true) c.refused.ensures
 
-loop-holds : tie.Need-loop-init invariant_loop decreases-loop
+loop-holds : tie.Need-loop-init invariant-loop decreases-loop
 loop-holds c = checking_begins _ _ (c.first.ensures _)
 
-next-inst-requires : tie.Need-next-inst-requires invariant_loop decreases-loop
+next-inst-requires : tie.Need-next-inst-requires invariant-loop decreases-loop
 next-inst-requires c κs = c.before.before.before.before.before.form-table.ensures
 
-returns_2 : tie.Need-returns-2 invariant_loop decreases-loop
-returns_2 c =
+returns-2 : tie.Need-returns-2 invariant-loop decreases-loop
+returns-2 c =
     let k = c.before.before.before.before.before.before.before.before.loop.invariant in
     rw (loads_is _ c.before.before.before.before.before.before.before.before.before.before.before.if1.false) (c.refused2.ensures ∙ ap checked_of (refuses_there _ _ _ k.reached k.counts_are k.has_head k.rest c.before.before.before.before.before.before.if2.true _ (sym c.before.before.did.given.1 ∙ c.before.before.before.before.next-inst.ensures.0 k.reached k.has_head k.counts_are)))
 
-loop-less : tie.Need-loop-smaller invariant_loop decreases-loop
+loop-less : tie.Need-loop-smaller invariant-loop decreases-loop
 loop-less c =
     let e = c.anew.ensures in
     let f = further _ _ _ _ c.before.before.before.before.next-inst.ensures.1 c.before.before.did2.given.1 in
     rw e (omega (arith, f.moves, f.inside))
 
-loop-again : tie.Need-loop-preserved invariant_loop decreases-loop
+loop-again : tie.Need-loop-preserved invariant-loop decreases-loop
 loop-again c =
     let k = c.before.before.before.before.before.before.before.before.loop.invariant in
     rw c.anew.ensures (checking_next _ _ k c.before.before.before.before.before.before.if2.true _ (further _ _ _ _ c.before.before.before.before.next-inst.ensures.1 c.before.before.did2.given.1) (sym c.before.before.did2.given.1 ∙ c.before.before.before.before.next-inst.ensures.0 k.reached k.has_head k.counts_are))
 
-finish-requires : tie.Need-finish-requires invariant_loop decreases-loop
+finish-requires : tie.Need-finish-requires invariant-loop decreases-loop
 finish-requires c κs = c.before.before.loop.invariant.fit
 
-returns-3 : tie.Need-returns-3 invariant_loop decreases-loop
+returns-3 : tie.Need-returns-3 invariant-loop decreases-loop
 returns-3 c =
     let k = c.before.before.before.loop.invariant in
     rw (loads_is _ c.before.before.before.before.before.before.if1.false) (c.finish.ensures _ k.reached k.counts_are ∙ ap checked_of (ends_there _ _ _ k.reached k.counts_are k.rest c.before.if2.false))
@@ -55,7 +55,7 @@ pub check_spec : {M : Type 1} → statement M
 check_spec =
     tie.close
     (tie.spec
-    invariant_loop
+    invariant-loop
     decreases-loop
     (λ c κs. search rules)
     returns
@@ -65,7 +65,7 @@ check_spec =
     next-inst-requires
     (λ c. search rules)
     (λ c κs. search rules)
-    returns_2
+    returns-2
     (λ c. search rules)
     (λ c κs. search rules)
     loop-less

@@ -12,8 +12,8 @@ use Rattle.loader.proofs.filling.load_insts.Tie as tie
 returns : tie.Need-returns
 returns c ls e = refused_with 10 _ _ _ (few_insts _ _ ls (rw (length_records inst) c.before.if1.true)) c.refused.ensures
 
-returns_2 : tie.Need-returns-2
-returns_2 c ls e = refused_with 10 _ _ _ (few_labels _ _ ls (rw (length_records inst) c.before.before.if1.false) (rw e c.before.if2.true)) c.refused2.ensures
+returns-2 : tie.Need-returns-2
+returns-2 c ls e = refused_with 10 _ _ _ (few_labels _ _ ls (rw (length_records inst) c.before.before.if1.false) (rw e c.before.if2.true)) c.refused2.ensures
 
 returns-3 : tie.Need-returns-3
 returns-3 c ls e =
@@ -33,7 +33,7 @@ load_insts_spec =
     (λ c κs. search rules)
     returns
     (λ c κs. search rules)
-    returns_2
+    returns-2
     (λ c κs. search rules)
     (λ c. search rules)
     (λ c. search rules)

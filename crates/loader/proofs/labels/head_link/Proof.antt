@@ -8,9 +8,9 @@ returns : tie.Need-returns
 unfolding head_by
 returns c = rw c.before.enum_told.given.1 c.no-link.ensures
 
-returns_2 : tie.Need-returns-2
+returns-2 : tie.Need-returns-2
 unfolding head_by
-returns_2 c = rw c.before.loading.given.1
+returns-2 c = rw c.before.loading.given.1
 
 pub head_link_spec : {M : Type 1} → statement M
-head_link_spec = tie.close (tie.spec (λ c. search rules) (λ c. search rules) (λ c κs. search rules) returns returns_2)
+head_link_spec = tie.close (tie.spec (λ c. search rules) (λ c. search rules) (λ c κs. search rules) returns returns-2)

@@ -2,7 +2,7 @@
 use mathlib.Core.Path.{refl, sym, ap, ◌∙◌}
 use native.Mathlib.Omega.{arith}
 use Rattle.inst_decode.specs.Decode.{means}
-use Rattle.inst_decode.proofs.Facts.{read-in}
+use Rattle.inst_decode.proofs.Facts.{read_in_lem}
 use Rattle.loader.specs.Reading.{Ahead}
 use Rattle.loader.proofs.Instructions.{refused_is, next-refused, next_five, next_six, next-plain, next-label, further_at}
 use borrow.Author.Rules.{rules}
@@ -15,14 +15,14 @@ returns c =
     let r = refused_is c.before.before.decode.result c.before.match.keys2 in
     (λ s h e. rw c.number.ensures (next-refused _ _ s e _ (sym c.before.before.decode.ensures ∙ r)), tt)
 
-returns_2 : tie.Need-returns-2
+returns-2 : tie.Need-returns-2
 unfolding Ahead means
-returns_2 c = (λ s h e. next_five _ _ s e _ _ (sym c.before.before.before.before.before.decode.ensures ∙ ap means c.before.before.before.did.given.1) c.if1.true, tt)
+returns-2 c = (λ s h e. next_five _ _ s e _ _ (sym c.before.before.before.before.before.decode.ensures ∙ ap means c.before.before.before.did.given.1) c.if1.true, tt)
 
 counted-requires : tie.Need-counted-requires
 unfolding means
 counted-requires c κs =
-    let r = read-in _ _ _ _ (sym c.before.before.before.before.before.decode.ensures ∙ ap means c.before.before.before.did.given.1) in
+    let r = read_in_lem _ _ _ _ (sym c.before.before.before.before.before.decode.ensures ∙ ap means c.before.before.before.did.given.1) in
     let n = c.before.before.before.before.before.before.shared-slice-known.given in
     (c.if1.false, omega (arith, r.inside))
 
@@ -38,7 +38,7 @@ returns-4 c = (λ s h e. next_six _ _ s e _ _ (sym c.before.before.before.before
 
 is-start-requires : tie.Need-is-start-requires
 unfolding means
-is-start-requires c κs = (read-in _ _ _ _ (sym c.before.before.before.before.before.before.before.before.before.before.decode.ensures ∙ ap means c.before.before.before.before.before.before.before.before.did.given.1)).name-inside
+is-start-requires c κs = (read_in_lem _ _ _ _ (sym c.before.before.before.before.before.before.before.before.before.before.decode.ensures ∙ ap means c.before.before.before.before.before.before.before.before.did.given.1)).name-inside
 
 labelled-requires : tie.Need-labelled-requires
 labelled-requires c κs = rw c.before.before.before.before.before.counted.ensures c.before.if3.false
@@ -58,7 +58,7 @@ next_inst_spec =
     (λ c. search rules)
     (λ c κs. search rules)
     returns
-    returns_2
+    returns-2
     counted-requires
     returns-3
     returns-4

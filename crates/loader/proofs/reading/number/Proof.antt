@@ -9,9 +9,9 @@ returns : tie.Need-returns
 unfolding means number_in
 returns c = simp c.enum_told.given.1
 
-returns_2 : tie.Need-returns-2
+returns-2 : tie.Need-returns-2
 unfolding means number_in
-returns_2 c = simp c.enum-told2.given.1
+returns-2 c = simp c.enum-told2.given.1
 
 returns-3 : tie.Need-returns-3
 unfolding means number_in
@@ -24,4 +24,4 @@ returns-4 c = simp c.enum-told4.given.1
 pub number_spec : {M : Type 1} → statement M
 number_spec =
     tie.close
-    (tie.spec (λ c. search rules) (λ c. search rules) (λ c. search rules) (λ c. search rules) returns returns_2 returns-3 returns-4)
+    (tie.spec (λ c. search rules) (λ c. search rules) (λ c. search rules) (λ c. search rules) returns returns-2 returns-3 returns-4)

@@ -11,8 +11,8 @@ follow-executed-requires c κs = (c.before.before.before.before.before.requires.
 returns : tie.Need-returns
 returns c = for_tried c.before.before.before.before.before.tried.given.1 (record { followed = c.before.before.follow-executed.ensures })
 
-returns_2 : tie.Need-returns-2
-returns_2 c = for_tried c.before.before.tried2.given.1 (record { followed = (rw c.asks.ensures refl, refl) })
+returns-2 : tie.Need-returns-2
+returns-2 c = for_tried c.before.before.tried2.given.1 (record { followed = (rw c.asks.ensures refl, refl) })
 
 pub follow_spec : {M : Type 1} → statement M
 follow_spec =
@@ -24,4 +24,4 @@ follow_spec =
     (λ c κs. search rules)
     (λ c. search rules)
     returns
-    returns_2)
+    returns-2)

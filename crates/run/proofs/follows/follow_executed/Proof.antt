@@ -7,8 +7,8 @@ use Rattle.run.proofs.follows.follow_executed.Tie as tie
 returns : tie.Need-returns
 returns c = for_answer c.before.before.answer.given.1 (rw c.anew.ensures (after_next _ _ _ _ _ c.before.before.before.before.before.requires.0 c.before.before.before.before.before.requires.1 _ (rw c.before.before.answer.given.1 at c.before.before.before.before.before.requires.2)))
 
-returns_2 : tie.Need-returns-2
-returns_2 c = for_answer c.before.before.answer2.given.1 (rw c.anew2.ensures (after_compared _ _ _ _ _ c.before.before.before.before.before.requires.0 c.before.before.before.before.before.requires.1 _ _ (rw c.before.before.answer2.given.1 at c.before.before.before.before.before.requires.2)))
+returns-2 : tie.Need-returns-2
+returns-2 c = for_answer c.before.before.answer2.given.1 (rw c.anew2.ensures (after_compared _ _ _ _ _ c.before.before.before.before.before.requires.0 c.before.before.before.before.before.requires.1 _ _ (rw c.before.before.answer2.given.1 at c.before.before.before.before.before.requires.2)))
 
 returns-3 : tie.Need-returns-3
 returns-3 c = for_answer c.before.before.before.answer3.given.1 (rw c.ends.ensures (after_full _ _ _ _ _ c.before.before.before.before.before.before.requires.0 c.before.before.before.before.before.before.requires.1 (no_slot c.before.before.before.before.before.before.args.dumps.now c.before.before.before.before.before.before.args.n c.before.before.before.before.before.before.requires.1 c.before.if1.true) _ _))
@@ -51,7 +51,7 @@ follow_executed_spec =
     (λ c. search rules)
     (λ c κs. search rules)
     returns
-    returns_2
+    returns-2
     returns-3
     (λ c. search rules)
     returns-4

@@ -11,9 +11,9 @@ returns : tie.Need-returns
 unfolding call call_to ◌must◌else◌then◌ change.moved change.with_calls
 returns c s me = record { does = λ f. simp (le-ltb _ _ c.if1.true); small = tt; kept = tt }
 
-returns_2 : tie.Need-returns-2
+returns-2 : tie.Need-returns-2
 unfolding call call_to ◌must◌else◌then◌ change.moved change.with_calls
-returns_2 c s me = record { does = λ f. simp (lt-ltb _ _ c.before.before.if1.false, c.enum_told.given.1); small = tt; kept = (refl, refl, refl) }
+returns-2 c s me = record { does = λ f. simp (lt-ltb _ _ c.before.before.if1.false, c.enum_told.given.1); small = tt; kept = (refl, refl, refl) }
 
 returns-3 : tie.Need-returns-3
 unfolding call call_to ◌must◌else◌then◌ change.moved change.with_calls
@@ -44,7 +44,7 @@ call_spec =
     (λ c. search rules)
     (λ c. search rules)
     (λ c κs. search rules)
-    returns_2
+    returns-2
     returns-3
     returns-4
     returns-5)

@@ -12,9 +12,9 @@ returns : tie.Need-returns
 unfolding ret ◌must◌else◌then◌ change.moved change.with_calls
 returns c s me = success refl (λ f. simp (lt-ltb _ _ c.before.if1.true)) (search rules)
 
-returns_2 : tie.Need-returns-2
+returns-2 : tie.Need-returns-2
 unfolding ret ◌must◌else◌then◌ change.moved change.with_calls
-returns_2 c s me = trapped refl (λ f. simp (le-ltb _ _ c.if1.false))
+returns-2 c s me = trapped refl (λ f. simp (le-ltb _ _ c.if1.false))
 
 pub ret_spec : {M : Type 1} → statement M
-ret_spec = tie.close (tie.spec (λ c. search rules) (λ c. search rules) (λ c. search rules) (λ c. search rules) returns returns_2)
+ret_spec = tie.close (tie.spec (λ c. search rules) (λ c. search rules) (λ c. search rules) (λ c. search rules) returns returns-2)

@@ -12,9 +12,9 @@ returns : tie.Need-returns
 unfolding dump ◌must◌else◌then◌ change.moved
 returns c ca me = record { does = λ f. simp (lt-ltb _ _ c.before.before.before.before.if1.true, ← c.before.before.before.is-stream.ensures, c.before.before.if2.true); small = search rules; kept = (refl, refl, refl) }
 
-returns_2 : tie.Need-returns-2
+returns-2 : tie.Need-returns-2
 unfolding dump ◌must◌else◌then◌ change.moved
-returns_2 c ca me = trapped c.trap.ensures (λ f. simp (lt-ltb _ _ c.before.before.before.if1.true, ← c.before.before.is-stream.ensures, c.before.if2.false))
+returns-2 c ca me = trapped c.trap.ensures (λ f. simp (lt-ltb _ _ c.before.before.before.if1.true, ← c.before.before.is-stream.ensures, c.before.if2.false))
 
 returns-3 : tie.Need-returns-3
 unfolding dump ◌must◌else◌then◌ change.moved
@@ -32,5 +32,5 @@ dump_spec =
     (λ c κs. search rules)
     (λ c κs. search rules)
     returns
-    returns_2
+    returns-2
     returns-3)

@@ -11,9 +11,9 @@ returns : tie.Need-returns
 unfolding compare ◌must◌else◌then◌ moved with_stack with_flags
 returns c ca me = record { does = λ f. simp (le-leb _ _ c.before.before.before.before.before.before.if1.true, ← c.before.before.before.before.as-u64.ensures, ← c.before.before.as-u642.ensures, ← c.cmp.ensures); small = search rules; kept = tt }
 
-returns_2 : tie.Need-returns-2
+returns-2 : tie.Need-returns-2
 unfolding compare ◌must◌else◌then◌ moved with_stack with_flags
-returns_2 c ca me = trapped c.trap.ensures (λ f. simp (lt-leb _ _ c.before.if1.false))
+returns-2 c ca me = trapped c.trap.ensures (λ f. simp (lt-leb _ _ c.before.if1.false))
 
 pub compare_spec : {M : Type 1} → statement M
 compare_spec =
@@ -31,4 +31,4 @@ compare_spec =
     (λ c κs. search rules)
     (λ c κs. search rules)
     returns
-    returns_2)
+    returns-2)

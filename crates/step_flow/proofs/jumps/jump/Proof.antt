@@ -11,9 +11,9 @@ returns : tie.Need-returns
 unfolding jump change.moved
 returns c s ca me = refused refl (λ f. simp c.enum_told.given.1)
 
-returns_2 : tie.Need-returns-2
+returns-2 : tie.Need-returns-2
 unfolding jump change.moved
-returns_2 c s ca me = trapped refl (λ f. simp c.enum-told2.given.1)
+returns-2 c s ca me = trapped refl (λ f. simp c.enum-told2.given.1)
 
 returns-3 : tie.Need-returns-3
 unfolding jump change.moved
@@ -33,6 +33,6 @@ jump_spec =
     (λ c. search rules)
     (λ c κs. search rules)
     returns
-    returns_2
+    returns-2
     returns-3
     returns-4)

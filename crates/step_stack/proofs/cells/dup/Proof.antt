@@ -10,9 +10,9 @@ returns : tie.Need-returns
 unfolding dup _must_else_then_
 returns c ca me = same (c.push.ensures ca me) (λ f. simp (lt-ltb _ _ c.before.before.before.if1.true))
 
-returns_2 : tie.Need-returns-2
+returns-2 : tie.Need-returns-2
 unfolding dup _must_else_then_
-returns_2 c ca me = trapped c.trap.ensures (λ f. simp (le-ltb _ _ c.before.if1.false))
+returns-2 c ca me = trapped c.trap.ensures (λ f. simp (le-ltb _ _ c.before.if1.false))
 
 pub dup_spec : {M : Type 1} → statement M
 dup_spec =
@@ -25,4 +25,4 @@ dup_spec =
     (λ c κs. search rules)
     (λ c κs. search rules)
     returns
-    returns_2)
+    returns-2)

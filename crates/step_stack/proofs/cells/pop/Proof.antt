@@ -11,9 +11,9 @@ returns : tie.Need-returns
 unfolding pop _must_else_then_ moved with_stack
 returns c s ca me = success c.onward.ensures (λ f. simp (lt-ltb _ _ c.before.if1.true)) (search rules)
 
-returns_2 : tie.Need-returns-2
+returns-2 : tie.Need-returns-2
 unfolding pop _must_else_then_ moved with_stack
-returns_2 c s ca me = trapped c.trap.ensures (λ f. simp (le-ltb _ _ c.before.if1.false))
+returns-2 c s ca me = trapped c.trap.ensures (λ f. simp (le-ltb _ _ c.before.if1.false))
 
 pub pop_spec : {M : Type 1} → statement M
-pop_spec = tie.close (tie.spec (λ c. search rules) (λ c κs. search rules) (λ c κs. search rules) returns returns_2)
+pop_spec = tie.close (tie.spec (λ c. search rules) (λ c κs. search rules) (λ c κs. search rules) returns returns-2)

@@ -11,9 +11,9 @@ returns : tie.Need-returns
 unfolding swap _must_else_then_ moved with_stack
 returns c ca me = success c.onward.ensures (λ f. simp (lt-ltb _ _ c.before.before.before.if1.true)) (search rules)
 
-returns_2 : tie.Need-returns-2
+returns-2 : tie.Need-returns-2
 unfolding swap _must_else_then_ moved with_stack
-returns_2 c ca me = trapped c.trap.ensures (λ f. simp (le-ltb _ _ c.before.if1.false))
+returns-2 c ca me = trapped c.trap.ensures (λ f. simp (le-ltb _ _ c.before.if1.false))
 
 pub swap_spec : {M : Type 1} → statement M
 swap_spec =
@@ -34,4 +34,4 @@ swap_spec =
     (λ c κs. search rules)
     (λ c κs. search rules)
     returns
-    returns_2)
+    returns-2)
