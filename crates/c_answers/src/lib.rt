@@ -5,14 +5,14 @@ ghost use Rattle.c_answers.specs.Endings.{ending_number};
 use machine::Ending;
 
 #[repr(C)]
-#[derive(Drop)]
+#[derive(Clone, Copy)]
 pub struct Loaded {
     pub number: u64,
     pub count: u64,
 }
 
 #[repr(C)]
-#[derive(Drop)]
+#[derive(Clone, Copy)]
 pub struct Ran {
     pub ending: u64,
     pub steps: u64,

@@ -154,7 +154,7 @@ pub fn agreeing_steps(
 }
 
 // What an image's record comes to: whether its answers are the recorded ones, and how many steps are.
-#[derive(Drop)]
+#[derive(Clone, Copy)]
 pub struct Replayed {
     pub same: bool,
     pub steps: usize,

@@ -11,14 +11,14 @@ use inst_encode::{checked_len, put_inst};
 use tables::{RECORD, inst_at};
 
 // The answer: a number, or how many bytes are written.
-#[derive(Drop)]
+#[derive(Clone, Copy)]
 pub enum Written {
     Refused(u8),
     Bytes(usize),
 }
 
 // What is left of a room, and whether records passed it.
-#[derive(Drop)]
+#[derive(Clone, Copy)]
 struct Room {
     left: usize,
     short: bool,

@@ -8,7 +8,7 @@ pub use records::{has_form, is_well_formed, name_in, name_ok, same_name};
 
 // An instruction record: the first byte, the cell, number or stream, and where in the image the name stands.
 // What an instruction does not use is 0.
-#[derive(Drop)]
+#[derive(Clone, Copy)]
 pub struct Inst {
     pub typ: u64,
     pub val: u64,

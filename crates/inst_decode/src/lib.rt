@@ -7,7 +7,7 @@ use inst::{EIGHT, Inst, NAME, NONE, ONE, TABLE_SIZE, form, form_table, name_ok, 
 use word::word_at;
 
 // What decoding finds: a number of document 01 by its case, or a record and its size.
-#[derive(Drop)]
+#[derive(Clone, Copy)]
 pub enum Decoded {
     Undefined,
     PastEnd,

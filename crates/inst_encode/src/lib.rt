@@ -5,7 +5,6 @@ ghost use Rattle.inst.specs.Forms.{form_table};
 ghost use Rattle.inst.specs.Records.{part, well_formed};
 ghost use Rattle.inst_encode.specs.Encode.{bytes_of, as_bytes};
 
-use bytes::copy;
 use inst::{EIGHT, Inst, NAME, ONE, TABLE_SIZE, form, form_table, has_form};
 
 // The `size` lowest bytes of a number from `at` on, the lowest first.
@@ -31,7 +30,7 @@ fn put_named(out: &mut [u8], at: usize, image: &[u8], start: u64, len: u64)
     put_number(out, at, 8, len);
     let from = start as usize;
     let to = from + len as usize;
-    copy(&image[from..to], &mut out[at + 8..]);
+    out[at + 8..at + 8 + len as usize].copy_from_slice(&image[from..to]);
 }
 
 // How many bytes a record is written in; 0 for one that number 34 calls ill. One search for the form serves both. Only the

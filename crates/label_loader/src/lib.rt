@@ -9,7 +9,7 @@ use machine::Label;
 // What a load answers: 0, with the fresh machine's pointer and the count of instructions; or the number of a refusal, with zeros.
 // The fresh machine itself is the caller's to make: all zero but the pointer.
 #[repr(C)]
-#[derive(Drop)]
+#[derive(Clone, Copy)]
 pub struct LoadAnswer {
     pub number: u64,
     pub ip: u64,

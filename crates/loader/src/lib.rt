@@ -29,14 +29,14 @@ pub const LABEL_BYTES: usize = LABEL_RECORDS * RECORD;
 
 // What a load answers: a number, or the pointer and the count. `fresh` makes the machine of the pointer: an enum that holds
 // the machine's arrays can't be proved from its code.
-#[derive(Drop)]
+#[derive(Clone, Copy)]
 pub enum Loading {
     Refused(u8),
     Accepted { ip: usize, count: usize },
 }
 
 // The same, and how many label records an image has, the head counted: 0 with a number.
-#[derive(Drop)]
+#[derive(Clone, Copy)]
 pub struct Checked {
     pub loading: Loading,
     pub labels: usize,
@@ -44,7 +44,7 @@ pub struct Checked {
 
 // What is kept of an image that was read so far: the next byte, the instructions, the label records with their head, whether
 // `_start` was defined and its last target, whether there was a NATIVE, and whether the last instruction is HALT.
-#[derive(Drop)]
+#[derive(Clone, Copy)]
 pub struct Counts {
     pub at: usize,
     pub insts: usize,
@@ -56,7 +56,7 @@ pub struct Counts {
 }
 
 // One instruction more: a number, or what is kept then.
-#[derive(Drop)]
+#[derive(Clone, Copy)]
 pub enum Next {
     Refused(u8),
     Read(Counts),
@@ -64,7 +64,7 @@ pub enum Next {
 
 // Where the linking of the labels stands: whether a label record is to be linked, its index, name and target; the
 // instructions passed so far, of how many; and how many label records there are.
-#[derive(Drop)]
+#[derive(Clone, Copy)]
 pub struct Linking {
     pub on: bool,
     pub index: usize,

@@ -16,7 +16,7 @@ use step_core::LookedUp;
 use tables::{RECORD, label_at};
 
 // A walk along the chain. It is on, at the record `at`, and the next index must be below `bound`; or it has its answer.
-#[derive(Drop)]
+#[derive(Clone, Copy)]
 pub struct Walk {
     pub on: bool,
     pub at: usize,

@@ -13,7 +13,7 @@ pub const MEMORY_SIZE: usize = 1024;
 // One machine. The data stack is the first `height` cells of `stack`, the call stack the first `call_height`
 // addresses of `calls`.
 #[repr(C)]
-#[derive(Drop)]
+#[derive(Clone, Copy)]
 pub struct Machine {
     pub stack: [u64; STACK_LIMIT],
     pub height: usize,
@@ -27,7 +27,7 @@ pub struct Machine {
 
 // A label's definition: its name's place in the image, its target and the next record of the chain.
 #[repr(C)]
-#[derive(Drop)]
+#[derive(Clone, Copy)]
 pub struct Label {
     pub start: u64,
     pub len: u64,
@@ -36,7 +36,7 @@ pub struct Label {
 }
 
 // How a run ends, in document 01's words: halt, limit or number.
-#[derive(Drop)]
+#[derive(Clone, Copy)]
 pub enum Ending {
     Halted,
     Limit,

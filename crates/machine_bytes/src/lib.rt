@@ -7,7 +7,6 @@ ghost use Rattle.step_core.specs.Parts.{height_of_calls, of_parts};
 ghost use Rattle.machine_bytes.specs.Layout.{machine_size, height_at, is_machine, machine_of, machine_bytes, Crosses};
 ghost use Rattle.step_core.specs.Parts.{registers_of};
 
-use bytes::copy;
 use machine::{CALL_LIMIT, MEMORY_SIZE, Machine, STACK_LIMIT};
 use step_core::Registers;
 use tables::{NUMBER, number_at};
@@ -77,7 +76,7 @@ pub fn read_arrays(
 {
     read_numbers(&machine[STACK..CALLS], stack);
     read_numbers(&machine[CALLS..MEMORY], calls);
-    copy(&machine[MEMORY..HEIGHT], memory);
+    memory.copy_from_slice(&machine[MEMORY..HEIGHT]);
 }
 
 // Its numbers that a run carries.
@@ -119,7 +118,7 @@ fn write_arrays(
 {
     write_numbers(stack, STACK, machine);
     write_numbers(calls, CALLS, machine);
-    copy(memory, &mut machine[MEMORY..HEIGHT]);
+    machine[MEMORY..HEIGHT].copy_from_slice(memory);
 }
 
 fn bit(b: bool) -> u8

@@ -19,7 +19,7 @@ use run::{ending, execute_parts};
 const NO_MACHINE: u64 = 50;
 
 #[repr(C)]
-#[derive(Drop)]
+#[derive(Clone, Copy)]
 pub struct Encoded {
     pub number: u64,
     pub size: u64,

@@ -9,7 +9,7 @@ const SIGN: u64 = 0x8000000000000000;
 // 2^48: a magnitude is below it
 const VALUES: u64 = 0x1000000000000;
 
-#[derive(Drop)]
+#[derive(Clone, Copy)]
 pub enum CellType {
     F64,
     I64,

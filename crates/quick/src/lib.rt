@@ -25,7 +25,7 @@ use step_stack::cells;
 use tables::number_at;
 
 // The machine's numbers and flags after the step; or no step was made.
-#[derive(Drop)]
+#[derive(Clone, Copy)]
 pub enum Quick {
     Success(Registers, u8),
     Stop,
@@ -204,7 +204,7 @@ fn execute_known(
 }
 
 // Where the loop stopped, with so many steps left.
-#[derive(Drop)]
+#[derive(Clone, Copy)]
 pub struct Reached {
     pub regs: Registers,
     pub left: u64,

@@ -11,7 +11,7 @@ use loader::{INST_BYTES, LABEL_BYTES};
 const INPUT: usize = 262144;
 
 // Where a record's parts lie: the image from `image` to `end`, the digests from `digests` to `next`, the next record.
-#[derive(Drop)]
+#[derive(Clone, Copy)]
 struct Record {
     image: usize,
     end: usize,
@@ -20,7 +20,7 @@ struct Record {
     next: usize,
 }
 
-#[derive(Drop)]
+#[derive(Clone, Copy)]
 enum Parsed {
     Found(Record),
     Malformed,

@@ -12,8 +12,9 @@ fn put(text: &mut [u8], at: usize, word: &[u8]) -> usize
     requires { at + length word.now ≤ length text.old }
     ensures { Put text.old at word.now text.new result }
 {
-    bytes::copy(word, &mut text[at..]);
-    at + word.len()
+    let end = at + word.len();
+    text[at..end].copy_from_slice(word);
+    end
 }
 
 // A word and a number.

@@ -12,7 +12,7 @@ use step_core::{Executed, Registers};
 use tables::{NUMBER as CELL, put_number};
 
 // After a step: on with the next, its flags and the cells dumped so far; or the run stops here.
-#[derive(Drop)]
+#[derive(Clone, Copy)]
 pub enum Turn {
     Go(Registers, u8, usize),
     End(Progress),

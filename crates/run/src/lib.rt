@@ -22,7 +22,7 @@ use step_core::{LookedUp, Registers};
 use tables::RECORD;
 
 // What a run returns.
-#[derive(Drop)]
+#[derive(Clone, Copy)]
 pub struct Ran {
     pub machine: Machine,
     pub ending: Ending,

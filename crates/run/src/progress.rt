@@ -7,7 +7,7 @@ use step_core::Registers;
 // What changes beside the arrays: the machine's numbers, the steps that are left and the cells dumped so far. The run
 // goes on, and asks for the lookup of the name at `start`; or it is over. The ending is in numbers, so that a Progress is
 // numbers alone.
-#[derive(Drop)]
+#[derive(Clone, Copy)]
 pub struct Progress {
     pub regs: Registers,
     pub flags: u8,

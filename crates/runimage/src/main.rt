@@ -10,7 +10,7 @@ use loader::IMAGE_LIMIT;
 const INPUT: usize = IMAGE_LIMIT + 1;
 
 // The bytes that were read, or none: an input that can't be read is no image.
-#[derive(Drop)]
+#[derive(Clone, Copy)]
 enum Input {
     Image(usize),
     Unreadable,

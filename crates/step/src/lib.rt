@@ -21,7 +21,7 @@ use step_stack::cells;
 use tables::number_at;
 
 // A step's answer; or the start and length of the name whose lookup it needs.
-#[derive(Drop)]
+#[derive(Clone, Copy)]
 pub enum Tried {
     Done(Executed),
     Asks { start: u64, len: u64 },

@@ -7,7 +7,7 @@ ghost use Rattle.step_core.specs.Parts.{is_asked};
 // The numbers that nearly every step changes. All fields have eight bytes: a u8 among them would leave seven bytes of
 // padding, which the compiler then copies through memory at each step (2.2 instead of 1.6 ns a step). So the flags
 // are a number beside the registers.
-#[derive(Drop)]
+#[derive(Clone, Copy)]
 pub struct Registers {
     pub ip: usize,
     pub height: usize,
@@ -16,7 +16,7 @@ pub struct Registers {
 
 // Success, for CMP with its new flags; a cell to dump, and the machine after it; HALT; a trap with the machine that it
 // leaves; 34, nothing changed.
-#[derive(Drop)]
+#[derive(Clone, Copy)]
 pub enum Executed {
     Next(Registers),
     Compared(Registers, u8),
@@ -28,7 +28,7 @@ pub enum Executed {
 
 // What a lookup of a name answers: no such label in the program, a chain that 34 names, or the target. NotAsked says that no
 // lookup was made.
-#[derive(Drop)]
+#[derive(Clone, Copy)]
 pub enum LookedUp {
     NotAsked,
     NoLabel,
