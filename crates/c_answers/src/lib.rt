@@ -1,4 +1,6 @@
 // How the answers of load and run cross to a host: C structs of numbers, an ending as a number.
+#![tactic(auto)]
+
 ghost use Rattle.std.specs.Prelude.{◌≡◌};
 ghost use Rattle.c_answers.specs.Endings.{ending_number};
 

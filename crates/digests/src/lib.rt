@@ -1,5 +1,7 @@
 // Digests of a machine after each step, compared with recorded ones. No part of mm: crate replay holds the machine to the
 // original's answers by them.
+#![tactic(auto)]
+
 ghost use Rattle.std.specs.Prelude.{◌≡◌, cond, ◌+◌, ◌*◌, ◌<◌, ◌≤◌, ◌^◌, length, get_or, take};
 ghost use Rattle.tables.specs.Tables.{program, records_of};
 ghost use Rattle.c_answers.specs.Endings.{ending_number};

@@ -1,4 +1,6 @@
 // The encoder (to_binary of mm): a table of records written out, straight into the output; and the room that it takes.
+#![tactic(auto)]
+
 ghost use Rattle.std.specs.Prelude.{◌≡◌, true, ℕ, ◌+◌, ◌≤◌, length, take};
 ghost use Rattle.std.proofs.lemmas.List.Edits.{sets};
 ghost use Rattle.inst.specs.Forms.{form_table};

@@ -1,4 +1,6 @@
 // The eight flags (mm's flag.rs).
+#![tactic(auto)]
+
 ghost use Rattle.std.specs.Prelude.{◌≡◌, ◌≤◌};
 ghost use Rattle.flag.specs.Flags as spec;
 

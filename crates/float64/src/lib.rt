@@ -1,5 +1,7 @@
 // IEEE 754's binary64 on bit patterns: the four operations and the conversions, each with the
 // definition of crate binary64 as its contract. Every NaN result is 0x7ff8000000000000.
+#![tactic(auto)]
+
 ghost use Rattle.std.specs.Prelude.{◌≡◌, ◌*◌, ◌^◌, ◌≤◌, false, from_bits, to_bits};
 ghost use Rattle.std.specs.Float.{binary64};
 ghost use Rattle.binary64.specs.Binary64.{value, finite, is_nan, sum_bits, difference_bits, product_bits, quotient_bits, to_i64, to_u64, of_whole, below_zero};

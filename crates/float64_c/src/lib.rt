@@ -1,5 +1,7 @@
 // The functions of `float64` under C's calling convention, for the oracle to link. They are called by a number, so
 // that one symbol serves.
+#![tactic(auto)]
+
 ghost use Rattle.std.specs.Prelude.{◌≡◌};
 ghost use Rattle.binary64.specs.Binary64.{to_i64};
 ghost use Rattle.float64_c.specs.Apply.{bit, applied};

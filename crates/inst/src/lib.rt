@@ -1,4 +1,6 @@
 // One instruction (mm's inst.rs): its record, the operand's form of a first byte, the check of a name and the well-formed record.
+#![tactic(auto)]
+
 mod forms;
 pub mod ops;
 mod records;

@@ -1,4 +1,6 @@
 // Decoding one instruction (Inst::from_bytes of mm's inst.rs).
+#![tactic(auto)]
+
 ghost use Rattle.std.specs.Prelude.{◌≡◌, ◌+◌, ◌≤◌, ◌<◌, length};
 ghost use Rattle.inst.specs.Forms.{eight, one, name, form_table};
 ghost use Rattle.inst_decode.specs.Decode.{means, type_of, is_negative, read_name, read_operand, from_bytes};

@@ -1,4 +1,6 @@
 // Encoding one well-formed record (Inst::as_bytes of mm's inst.rs), straight into the output.
+#![tactic(auto)]
+
 ghost use Rattle.std.specs.Prelude.{◌≡◌, true, cond, ◌++◌, ◌+◌, ◌≤◌, length};
 ghost use Rattle.std.proofs.lemmas.List.Edits.{sets};
 ghost use Rattle.inst.specs.Forms.{form_table};

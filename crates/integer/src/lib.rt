@@ -1,4 +1,6 @@
 // The integer operations of cells (INC, DEC, IADD, ISUB, IMUL, IDIV of mm's mm.rs).
+#![tactic(auto)]
+
 ghost use Rattle.std.specs.Prelude.{◌≡◌, ◌*◌, ◌%◌, ◌^◌, ◌<◌};
 ghost use Rattle.integer.specs.Integers as integers;
 

@@ -4,6 +4,8 @@
 // Neither the tables nor the image change during a run, so an entry stays true. A lookup that finds no target isn't
 // kept: it ends the run.
 // Only crate step calls the functions, and proves what they require.
+#![tactic(auto)]
+
 ghost use Rattle.std.specs.Prelude.{◌≡◌, ◌+◌, ◌*◌, ◌<◌, ◌≤◌, length};
 ghost use Rattle.inst.specs.Forms.{form_table};
 ghost use Rattle.inst.specs.Records.{well_formed};

@@ -1,5 +1,7 @@
 // The loader whose label table is a lent slice of records, exported for the oracle. The borrow checker doesn't cover a slice of
 // structs, so the one function that holds it is proved by hand, and kept small: it links, and all else is covered.
+#![tactic(auto)]
+
 ghost use Rattle.std.specs.Prelude.{◌≡◌};
 ghost use Rattle.label_loader.specs.Loading.{numbers_of, load_call};
 

@@ -1,6 +1,8 @@
 // The lookup and the run over a label table that is a slice of records. The lookup reads one record each turn, and crate
 // lookup's `judge` decides on it; the run is crate run's, which stops where it needs a lookup. Proved by hand: the borrow
 // checker covers no reference to a struct.
+#![tactic(auto)]
+
 ghost use Rattle.std.specs.Prelude.{◌≡◌, List};
 ghost use Rattle.inst.specs.declared.Inst.{Inst};
 ghost use Rattle.lookup.specs.Walks.{lent_program, Finds};

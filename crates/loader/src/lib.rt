@@ -1,6 +1,8 @@
 // The loader (Mm::from_binary of mm's mm.rs): an image read into two lent tables.
 // A first pass without a write finds every refusal, the pointer and the count (checking, reading); a second one fills the
 // instruction table (filling); a third, over the filled table, links the labels (labels).
+#![tactic(auto)]
+
 ghost use Rattle.std.specs.Prelude.{◌≡◌};
 ghost use Rattle.loader.specs.Loading.{fresh_at, FromBinary};
 

@@ -1,5 +1,7 @@
 // The lookup of a name along the label chain. `lookup` alone holds the label table, and reads one record each turn;
 // `judge` decides on it.
+#![tactic(auto)]
+
 ghost use Rattle.std.specs.Prelude.{◌≡◌, true, false, cond, ◌&&◌, List, ℕ, ◌+◌, ◌≤◌, ◌<◌, eqb, ltb, length};
 ghost use Rattle.inst.specs.declared.Inst.{Inst};
 ghost use Rattle.inst.specs.Records.{name_in};

@@ -1,4 +1,6 @@
 // The machine's types. Document 01's definitions over them stand in specs/, the theorems in proofs/.
+#![tactic(auto)]
+
 ghost use Rattle.machine.specs.Theorems.{Theorems};
 
 pub mod traps;

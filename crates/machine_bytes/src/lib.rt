@@ -1,5 +1,7 @@
 // A machine as bytes, as a host lends it: tested, read into arrays and numbers, and written from them.
 // What reads and writes has a `requires`: only the host's calls use it, behind their tests.
+#![tactic(auto)]
+
 ghost use Rattle.std.specs.Prelude.{◌≡◌, ◌+◌, ◌*◌, ◌≤◌, cond, [], ◌∷◌, ◌++◌, length};
 ghost use Rattle.std.proofs.lemmas.List.Edits.{sets};
 ghost use Rattle.tables.specs.Tables.{numbers_in, bytes_of};

@@ -1,5 +1,7 @@
 // The calls of a host, from Rust or C: load, run, encode and the room for it over lent bytes, as docs/HOST.md lays them out.
 // None has a `requires`: each is right for slices of any length and contents, at any address.
+#![tactic(auto)]
+
 ghost use Rattle.std.specs.Prelude.{◌≡◌, ◌≤◌};
 ghost use Rattle.mm_host.specs.Calls.{ran_with, encoded_numbers, load_call, run_call, encode_call, size_call};
 ghost use Rattle.encoder.specs.Encoder.{means};

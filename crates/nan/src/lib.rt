@@ -1,5 +1,7 @@
 // Cells (NaNBox of mm's nan.rs): the type and the value that 64 bits hold, and cells made of numbers. Masks and
 // shifts of mm are written as remainders and quotients by powers of two.
+#![tactic(auto)]
+
 ghost use Rattle.std.specs.Prelude.{◌≡◌, ◌≤◌};
 ghost use Rattle.nan.specs.Cells as cells;
 

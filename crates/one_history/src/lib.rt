@@ -1,4 +1,6 @@
 // Demand 3 of the code. No behaviour of its own: `load`, `run`, `host_load` and `host_run` hold the statements' hypotheses to the calls.
+#![tactic(auto)]
+
 ghost use Rattle.inst.specs.Records.{Bytes};
 ghost use Rattle.loader.specs.Loading.{FromBinary};
 ghost use Rattle.run.specs.Runs.{ExecuteProgram};

@@ -1,6 +1,8 @@
 // The quick way through known instructions: those whose record was tested and whose name was found during this run. A
 // loop with no call left in it once compiled. It takes only steps that succeed and dump nothing; at any other it stops
 // with nothing changed, and the general step takes that one. Only the run calls it.
+#![tactic(auto)]
+
 ghost use Rattle.std.specs.Prelude.{◌≡◌, false, ◌+◌, ◌*◌, ◌≤◌, ◌<◌, length, get_or};
 ghost use Rattle.machine.specs.Lookup.{leads_to};
 ghost use Rattle.machine.specs.Step as definition;

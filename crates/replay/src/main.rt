@@ -1,5 +1,7 @@
 // A sample of the original's answers (README.md) on standard input: each image is loaded and run step by step, and held to
 // what was recorded. What is read and written is in no contract; what an image comes to is digests'.
+#![tactic(auto)]
+
 ghost use Rattle.std.specs.Prelude.{◌+◌, ◌≤◌, ◌<◌, length};
 ghost use Rattle.replay.specs.Reading.{Lies, Fits};
 

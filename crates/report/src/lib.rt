@@ -1,5 +1,7 @@
 // The text of the lines that `runimage` prints, put into a lent text from an offset on. Each function returns the offset
 // behind what it wrote. They have a `requires`, that the line fits: only transcript calls them, and proves it.
+#![tactic(auto)]
+
 ghost use Rattle.std.specs.Prelude.{◌++◌, ◌+◌, ◌*◌, ◌≤◌, length, take};
 ghost use Rattle.tables.specs.Tables.{numbers_in};
 ghost use Rattle.report.specs.Text.{Put, decimal, cell_line, cell_lines, ending_text, end_line, refused_line};

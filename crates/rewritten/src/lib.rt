@@ -1,5 +1,7 @@
 // Document 02, request b: the length of a rewritten image. No behaviour of its own: `encode`, `room`, `host_encode` and `host_room` hold the statements'
 // hypotheses to the calls; `load` and `host_load` of one_history do that for the loads.
+#![tactic(auto)]
+
 ghost use Rattle.std.specs.Prelude.{◌≡◌};
 ghost use Rattle.mm_host.specs.Calls.{encode_call, size_call};
 ghost use Rattle.rewritten.specs.Rewritten.{Theorems};

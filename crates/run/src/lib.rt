@@ -1,6 +1,8 @@
 // A run (execute_program of mm's mm.rs) over the machine by value: the general step where something is new or ends the run,
 // and the quick loop for all the rest. Only execute_program and lookup hold the label table: where `steps` needs a lookup
 // it stops and asks for it.
+#![tactic(auto)]
+
 ghost use Rattle.std.specs.Prelude.{◌≡◌, ◌-◌, ◌≤◌, eqb};
 ghost use Rattle.step_core.specs.Parts.{of_parts};
 ghost use Rattle.step.specs.Steps.{arrays};

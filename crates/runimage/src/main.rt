@@ -1,5 +1,7 @@
 // `runimage` of document 01: an image on standard input, what its runs print on standard output. What is read and written
 // is in no contract; what is printed of an image is transcript's.
+#![tactic(auto)]
+
 ghost use Rattle.std.specs.Prelude.{length};
 ghost use Rattle.runimage.specs.Reading.{Fits};
 

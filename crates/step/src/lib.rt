@@ -1,6 +1,8 @@
 // One step as the definition has it (execute_instruction of mm's mm.rs): the record at the pointer is tested, a name is
 // looked up, the instruction executed. What is found out is kept. It doesn't hold the label table: where it needs a lookup
 // it asks for one, and is called again with what was found. Only the run calls it.
+#![tactic(auto)]
+
 ghost use Rattle.std.specs.Prelude.{◌≡◌, true, false, ◌+◌, ◌*◌, ◌≤◌, ◌<◌, length};
 ghost use Rattle.inst.specs.Forms.{form_table};
 ghost use Rattle.step_core.specs.Parts.{Inside, Tested, found_of};

@@ -1,5 +1,7 @@
 // F2I, F2U, I2F, I2U, U2I, U2F: first bytes 31 to 36. Where the function is called with a literal first byte, the compiler
 // keeps only that instruction's part. Only our own steps call it: it requires what a step has tested before.
+#![tactic(auto)]
+
 ghost use Rattle.std.specs.Prelude.{◌≡◌, true, false, ◌*◌, ◌^◌, nat_abs};
 ghost use Rattle.binary64.specs.Binary64 as binary64;
 ghost use Rattle.nan.specs.Cells as cells;

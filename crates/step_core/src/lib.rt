@@ -1,5 +1,7 @@
 // What the instructions of execute_instruction share: the machine's numbers, and what an instruction comes to. The
 // stacks and the memory are lent beside them.
+#![tactic(auto)]
+
 ghost use Rattle.std.specs.Prelude.{◌≡◌, ◌+◌, ◌<◌, ◌^◌};
 ghost use Rattle.step_core.specs.declared.Executed.TheVariants.{Next, Trap};
 ghost use Rattle.step_core.specs.Parts.{is_asked};

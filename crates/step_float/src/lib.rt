@@ -1,5 +1,7 @@
 // FADD, FSUB, FMUL, FDIV: first bytes 23 to 26. Where the function is called with a literal first byte, the compiler
 // keeps only that instruction's part. Only our own steps call it: it requires what a step has tested before.
+#![tactic(auto)]
+
 ghost use Rattle.std.specs.Prelude.{◌≡◌, ◌||◌};
 ghost use Rattle.binary64.specs.Binary64.{is_nan};
 ghost use Rattle.machine.specs.Step as definition;

@@ -1,5 +1,7 @@
 // IADD, ISUB, IMUL, IDIV: first bytes 5 to 8. Where the function is called with a literal first byte, the compiler
 // keeps only that instruction's part. Only our own steps call it: it requires what a step has tested before.
+#![tactic(auto)]
+
 ghost use Rattle.std.specs.Prelude.{◌≡◌, true, not, ◌&&◌};
 ghost use Rattle.nan.specs.declared.CellType.TheVariants.{I64};
 ghost use Rattle.machine.specs.Step as definition;

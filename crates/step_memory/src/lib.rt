@@ -1,5 +1,7 @@
 // READ and WRITE of each width. Only our own steps call them: each requires what a step has tested before it executes
 // an instruction.
+#![tactic(auto)]
+
 ghost use Rattle.std.specs.Prelude.{◌≡◌, ◌<◌, get_or};
 ghost use Rattle.machine.specs.Limits.{memory_size};
 ghost use Rattle.machine.specs.Step as definition;

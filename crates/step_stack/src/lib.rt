@@ -1,2 +1,4 @@
 // The instructions on the data stack.
+#![tactic(auto)]
+
 pub mod cells;

@@ -1,5 +1,7 @@
 // Lent tables: a byte slice as a list of records, four numbers a record, eight bytes a number with the lowest first.
 // Reading and writing one number or record. These functions have a `requires`: only our own crates call them.
+#![tactic(auto)]
+
 ghost use Rattle.std.specs.Prelude.{◌≡◌, [], ◌∷◌, ◌+◌, ◌*◌, ◌≤◌, length, get_or};
 ghost use Rattle.std.proofs.lemmas.List.Edits.{sets};
 ghost use Rattle.inst.specs.declared.Inst.{Inst};

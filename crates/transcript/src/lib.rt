@@ -1,4 +1,6 @@
 // What `runimage` does with an image: the load, the runs, and the text that is printed.
+#![tactic(auto)]
+
 ghost use Rattle.std.specs.Prelude.{◌≡◌};
 ghost use Rattle.tables.specs.Tables.{program};
 ghost use Rattle.report.specs.Text.{Put};

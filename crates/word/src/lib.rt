@@ -1,4 +1,6 @@
 // A number in memory: eight bytes, the lowest first, read and written. What does has a `requires`: only our own crates call it.
+#![tactic(auto)]
+
 ghost use Rattle.std.specs.Prelude.{◌≡◌, ◌+◌, ◌%◌, ◌/◌, ◌≤◌, length};
 ghost use Rattle.std.proofs.lemmas.List.Edits.{sets};
 ghost use Rattle.word.specs.Words.{number_of, word, eight_of};
