@@ -10,7 +10,7 @@ use lib.Seq.{sets, sets-eq, length-take-le, take-length}
 use Rattle.inst.specs.declared.Inst.{Inst}
 use Rattle.inst.specs.Forms.{Form, none, eight, one, name, undefined, form_of, letter_of}
 use Rattle.inst.proofs.Laws.{sets_more}
-use Rattle.inst.proofs.Parts.{lent-part}
+use Rattle.inst.proofs.Parts.{lent-whole}
 use Rattle.inst_encode.specs.Encode.{bytes_of, operand_bytes, as_bytes}
 
 -- what is left of a number's bytes
@@ -31,16 +31,9 @@ stored_both : (l l₁ l₂ vs ws : List ℕ) (at n : ℕ) → length vs ≡ n �
 stored_both l l₁ l₂ vs ws at n e p q = q ∙ rw (p, ← e) (sets_more vs l ws at)
 
 -- stores, and behind them a copy into the rest of the slice, which was lent for it
-pub stored_copied : (l b ys xs vs : List ℕ) (at n : ℕ) → length vs ≡ n → b ≡ sets l at vs → at + n + length xs ≤ length b
-    → ys ≡ take (length xs) xs ++ drop (length xs) (take (length b - (at + n)) (drop (at + n) b))
-    → take (at + n) b ++ (ys ++ drop (length b - (at + n)) (drop (at + n) b)) ≡ sets l at (vs ++ xs)
-stored_copied l b ys xs vs at n e p h q =
-    let i = at + n in
-    let x : List ℕ = take (length b - i) (drop i b) in
-    let long = length-take-le (length b - i) (drop i b) (omega (arith, length-drop i b)) in
-    let front = sets-eq xs x 0 (omega (arith, long)) ∙ ap (λ (j : ℕ). xs ++ drop j x) (zero-add (length xs)) in
-    let came : ys ≡ sets x 0 xs = q ∙ ap (λ (y : List ℕ). y ++ drop (length xs) x) (take-length xs) ∙ sym front in
-    stored_both l b _ vs xs at n e p (lent-part b ys xs i (length b) h (omega arith) came)
+pub stored_copied : (l b xs vs : List ℕ) (at n e : ℕ) → length vs ≡ n → b ≡ sets l at vs → at + n ≤ e → e ≤ length b → length xs ≡ e - (at + n)
+    → take (at + n) b ++ (xs ++ drop (e - (at + n)) (drop (at + n) b)) ≡ sets l at (vs ++ xs)
+stored_copied l b xs vs at n e h p k m q = stored_both l b _ vs xs at n h p (lent-whole b xs (at + n) e k m q)
 
 -- the first byte, then the operand
 pub stored_first : (out out' bytes ops : List ℕ) (at op : ℕ) → bytes ≡ op ∷ ops → out' ≡ sets (set out at op) (at + 1) ops → out' ≡ sets out at bytes

@@ -32,7 +32,9 @@ fn put_named(out: &mut [u8], at: usize, image: &[u8], start: u64, len: u64)
     put_number(out, at, 8, len);
     let from = start as usize;
     let to = from + len as usize;
-    out[at + 8..at + 8 + len as usize].copy_from_slice(&image[from..to]);
+    let begin = at + 8;
+    let end = begin + len as usize;
+    out[begin..end].copy_from_slice(&image[from..to]);
 }
 
 // How many bytes a record is written in; 0 for one that number 34 calls ill. One search for the form serves both. Only the

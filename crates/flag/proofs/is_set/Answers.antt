@@ -1,0 +1,10 @@
+-- `flag::is_set` meets its contract.
+-- Assumes nothing.
+use mathlib.Core.Path.{refl}
+use Rattle.flag.specs.Flags.{is_set}
+use borrow.Author.Rules.{rules}
+use Rattle.flag.proofs.is_set.Goals as goal
+
+pub returns : goal.returns
+unfolding is_set
+returns c = refl
