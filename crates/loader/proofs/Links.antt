@@ -67,7 +67,7 @@ module _ (image : List ℕ) (l : Loaded) where
       let m = links_more s.insts 0 i (head 0 ∷ []) in
       record {
         labels-are = g.labels-are ∙ sym (ap (λ (is : List Inst). links 0 is (head 0 ∷ [])) g.insts-are ∙ (rw (zero-add, ← k.labels-are) at m));
-        fit = g.labels-fit k.fit;
+        fit = g.labels_fit k.fit;
       }
 
   linked_end : (s : Scan) → Linked s.insts s.labels → finished image (goes s) ≡ accepts l → Linked l.insts l.labels

@@ -138,10 +138,10 @@ module _ (image : List ℕ) where
         let w = went s d q in
         let i = last_inst w.to.insts in
         let g = grown s w.to _ w.goes_to in
-        let k : s.at < w.to.at = rw (at_of c s e, at_of d w.to w.counts-are) at m in
+        let k : s.at < w.to.at = rw (at_of c s e, at_of d w.to w.counts_are) at m in
         record {
           to = w.to;
-          counts_are = w.counts-are;
+          counts_are = w.counts_are;
           has_head = rw g.labels-are (head-kept (is_label i) i (length s.insts) s.labels z);
           rest = rest-next s l inside w.to r w.goes_to k;
         }
@@ -172,7 +172,7 @@ module _ (image : List ℕ) where
         → Checking image d
     checking_next d f q =
         let p = passes image _ c k.reached k.counts_are k.has_head k.rest h d f.moves q in
-        record { reached = p.to; counts_are = p.counts-are; has_head = p.has-head; rest = p.rest; fit = f.insts_fit }
+        record { reached = p.to; counts_are = p.counts_are; has_head = p.has_head; rest = p.rest; fit = f.insts_fit }
 
   pub loads_is : length image ≤ image_limit → loads image ≡ finished image (scan (length image) image begin)
   unfolding loads

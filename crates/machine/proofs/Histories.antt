@@ -92,7 +92,7 @@ module _ (p : Program) (first : State) where
     pub trap-ends : (k : ℕ) (u : State) (t : ℕ) (m : Machine) → n ≤ k → k < n + r.steps → history p first k ≡ end u → step p u.machine ≡ trap t m
         → (suc k ≡ n + r.steps) × (r.ending ≡ Number t)
 
-  joined-ended : (n : ℕ) (s : State) (limit room : ℕ) (e : Ending) → history p first n ≡ end s → Counts s.machine s.open-calls
+  joined-ended : (n : ℕ) (s : State) (limit room : ℕ) (e : Ending) → history p first n ≡ end s → Counts s.machine s.open_calls
       → Because p first (n + 0) (n + limit) 0 room s.machine e → Joined n s limit room (ended e s.machine)
   joined-ended n s limit room e q c b =
       record {
@@ -137,10 +137,10 @@ module _ (p : Program) (first : State) where
 
   -- a run with this limit joins the history wherever it starts
   abbrev pub Joins : ℕ → Type 0
-  Joins limit = (room n : ℕ) (s : State) → history p first n ≡ end s → Counts s.machine s.open-calls
+  Joins limit = (room n : ℕ) (s : State) → history p first n ≡ end s → Counts s.machine s.open_calls
       → Joined n s limit room (course p limit room s.machine)
 
-  module _ (n : ℕ) (s : State) (q : history p first n ≡ end s) (c : Counts s.machine s.open-calls) where
+  module _ (n : ℕ) (s : State) (q : history p first n ≡ end s) (c : Counts s.machine s.open_calls) where
     -- the history's next step
     goes : s.machine.halted ≡ false → history p first (suc n) ≡ stepped s (effects_at p s.machine) (step p s.machine)
     unfolding history further
@@ -152,7 +152,7 @@ module _ (p : Program) (first : State) where
 
     next : (limit room whole : ℕ) (o : Outcome) (m' : Machine) (cells : List ℕ) (rest : Course) → s.machine.halted ≡ false
         → stepped s (effects_at p s.machine) (step p s.machine) ≡ advance s (effects_at p s.machine) o m' cells
-        → Open s.machine m' s.open-calls (effects_at p s.machine).on-calls o
+        → Open s.machine m' s.open_calls (effects_at p s.machine).on-calls o
         → ((t : ℕ) (m : Machine) → step p s.machine ≡ trap t m → (rest.steps ≡ 0) × (rest.ending ≡ Number t)) → length cells + room ≡ whole
         → ((l : List ℕ) → history p first (suc n) ≡ end (after_it o m' cells l) → Counts m' l → Joined (suc n) (after_it o m' cells l) limit room rest)
         → Joined n s (suc limit) whole (after cells rest)
@@ -164,11 +164,11 @@ module _ (p : Program) (first : State) where
         → (is_dump st && eqb room 0) ≡ false → Joined n s (suc limit) room (taken s.machine (course p limit) room st)
     unfolding taken stepped is_ill is_dump Because Does
     taken_joins limit room ih h (succeeds m') e i d =
-        let k = open_next s.machine m' s.open-calls c _ (rw e at (anywhere p s.machine)).called in
+        let k = open_next s.machine m' s.open_calls c _ (rw e at (anywhere p s.machine)).called in
         next limit room room untrapped m' [] _ h (ap (stepped s _) e) k (λ t m f. absurd (let z : ◌≡◌ {A = ℕ} 0 1 = cc in omega arith)) (zero-add room)
         (λ l. ih room (suc n) _)
     taken_joins limit room ih h (outputs cell m') e i d =
-        let k = open_next s.machine m' s.open-calls c _ (rw e at (anywhere p s.machine)).called in
+        let k = open_next s.machine m' s.open_calls c _ (rw e at (anywhere p s.machine)).called in
         next limit (room - 1) room untrapped m' (cell ∷ []) _ h (ap (stepped s _) e) k (λ t m f. absurd (let z : ◌≡◌ {A = ℕ} 0 1 = cc in omega arith))
         (one_more room (eqb-false room 0 d)) (λ l. ih (room - 1) (suc n) _)
       where
@@ -177,7 +177,7 @@ module _ (p : Program) (first : State) where
         one_more (suc r) z = omega arith
     taken_joins limit room ih h (trap t m') e i d =
         let l = rw e at (anywhere p s.machine) in
-        let k = open_trap s.machine m' s.open-calls c _ t l.0.calls_are l.1 in
+        let k = open_trap s.machine m' s.open_calls c _ t l.0.calls_are l.1 in
         next limit room room (trapped t) m' [] _ h (ap (stepped s _) e) k (λ u m f. (refl, (cc))) (zero-add room)
         (λ l g x. joined-ended (suc n) _ limit room (Number t) g x (is_trap n s (sym (add-zero (suc n))) q e))
     taken_joins limit room ih h ill e i d = never (sym i)

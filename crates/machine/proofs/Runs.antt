@@ -189,8 +189,8 @@ module _ (image : List ℕ) (l : Loaded) (v : Valid image l) where
     chained_cons n s q qs r rs j t =
         record {
           last = t.last;
-          history_is = rw (← add_assoc) t.history-is;
-          machine_is = t.machine-is ∙ ap (λ (x : Machine). last_machine x rs) j.machine_is;
+          history_is = rw (← add_assoc) t.history_is;
+          machine_is = t.machine_is ∙ ap (λ (x : Machine). last_machine x rs) j.machine_is;
           dumps-are = t.dumps-are ∙ ap (λ (x : List ℕ). x ++ all_dumped rs) j.dumps-are ∙ append_assoc s.dumps r.cells (all_dumped rs)
               ∙ ap (λ (x : List ℕ). s.dumps ++ (x ++ all_dumped rs)) (sym (front r.cells q.buffer j.fits));
           all_kept = (
@@ -201,11 +201,11 @@ module _ (image : List ℕ) (l : Loaded) (v : Valid image l) where
               size_is = length-sets q.buffer 0 r.cells;
               fits = j.fits;
             },
-            t.all-kept,
+            t.all_kept,
           );
         }
 
-    chained : (qs : List Request) (rs : List Result) (n : ℕ) (s : State) → history Q first n ≡ end s → height_of_calls s.machine ≡ length s.open-calls
+    chained : (qs : List Request) (rs : List Result) (n : ℕ) (s : State) → history Q first n ≡ end s → height_of_calls s.machine ≡ length s.open_calls
         → RunsFrom Q s.machine qs rs → Chained n s qs rs
     unfolding RunsFrom run reported total_steps last_machine all_dumped AllKept
     chained [] [] n s e k w = record { last = s; history_is = rw add-zero e; machine_is = refl; dumps-are = sym (append-nil s.dumps); all_kept = tt }
@@ -245,7 +245,7 @@ module _ (image : List ℕ) (insts : List Inst) (labels : List Label) (l : Loade
 pub runs_from : (p : Program) (m : Machine) (qs : List Request) → RunsFrom p m qs (runs p m qs)
 unfolding RunsFrom runs
 runs_from p m [] = tt
-runs_from p m (q ∷ qs) = (refl, runs_from p _ qs)
+runs_from p m (q ∷ qs) = (refl, runs_from p (run p q.limit q.buffer m).machine qs)
 
 pub runs_are_one_history : RunsAreOneHistory
 unfolding history initial fresh
@@ -255,14 +255,14 @@ runs_are_one_history image insts labels l bytes e qs rs w =
     let ls = ls' image insts labels l bytes e in
     let t = chained image l v is ls qs rs 0 (initial (fresh l)) refl refl (subst (λ (p : Program). RunsFrom p (fresh l) qs rs) (lent_is image insts labels l bytes e) w) in
     let h : history (program_of image l) (initial (fresh l)) (total_steps rs) ≡ end t.last =
-    sym (same-history image l v is ls (total_steps rs)) ∙ (rw zero-add at t.history-is) in
+    sym (same-history image l v is ls (total_steps rs)) ∙ (rw zero-add at t.history_is) in
     record {
       last = t.last;
       history_is = h;
-      machine_is = t.machine-is;
+      machine_is = t.machine_is;
       dumps-are = t.dumps-are;
       always = everywhere image l v _ t.last h;
-      all_kept = t.all-kept;
+      all_kept = t.all_kept;
     }
 
 pub names_lead_to_last : NamesLeadToLast

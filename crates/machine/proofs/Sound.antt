@@ -35,7 +35,7 @@ pub record Called (count : ℕ) (m : Machine) (l : List ℕ) : Type 0 where
 pub record Sound (count : ℕ) (s : State) : Type 0 where
   pub height_is : s.height ≡ pos s.machine.height
   pub height_fits : s.machine.height ≤ stack_limit
-  pub called : Called count s.machine s.open-calls
+  pub called : Called count s.machine s.open_calls
 
 pub counted : (count : ℕ) (s : State) → Sound count s → Counted s
 counted count s h = record { height_is = h.height_is; addresses-are = h.called.addresses-are }
@@ -147,16 +147,16 @@ module _ (count : ℕ) where
     Goes o m' cells = (u : State) × (advance s e o m' cells ≡ end u) × Sound count u
 
     goes : (o : Outcome) (m' : Machine) (cells : List ℕ) → s.height +ℤ effect e o ≡ pos m'.height → m'.height ≤ stack_limit
-        → Leaves s.machine s.open-calls h.called e.on-calls o m' → Goes o m' cells
+        → Leaves s.machine s.open_calls h.called e.on-calls o m' → Goes o m' cells
     unfolding advance end_with
     goes o m' cells i j c = (_, ap (end_with _) c.1, record { height_is = i; height_fits = j; called = c.2 })
 
     moves_sound : (m' : Machine) (cells : List ℕ) → Moves e w found s.machine cells m' → Goes untrapped m' cells
     unfolding effect
     moves_sound m' cells d =
-        let i = pointer_in s.machine s.open-calls h.called e.on-calls w.pointer found m' a f d.touched.pointer_is in
+        let i = pointer_in s.machine s.open_calls h.called e.on-calls w.pointer found m' a f d.touched.pointer_is in
         goes untrapped m' cells (rw h.height_is (sym d.touched.height_is)) (d.limited h.height_fits)
-        (called_next s.machine s.open-calls h.called e.on-calls w.pointer m' a d.called i)
+        (called_next s.machine s.open_calls h.called e.on-calls w.pointer m' a d.called i)
 
     trap_sound : (t : ℕ) (m' : Machine) → TrapLeft e t s.machine m' → Room e.on-calls t s.machine → Goes (trapped t) m' []
     unfolding effect
@@ -165,7 +165,7 @@ module _ (count : ℕ) where
         goes (trapped t) m' []
         (ap (λ (x : ℤ). x +ℤ neg_ℤ (pos (lost e t))) h.height_is ∙ sym (less_by m.height (lost e t) d.enough) ∙ ap pos (sym d.height_is))
         (rw d.height_is (omega (arith, h.height_fits)))
-        (called_trap m s.open-calls h.called e.on-calls w.pointer t m' a d.calls_are d.pointer_is r)
+        (called_trap m s.open_calls h.called e.on-calls w.pointer t m' a d.calls_are d.pointer_is r)
 
     pub stepped_sound : (r : Stepped) → Does ⊥ e w found s.machine r → (u : State) × (stepped s e r ≡ end u) × Sound count u
     unfolding Does stepped

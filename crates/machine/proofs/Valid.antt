@@ -106,7 +106,7 @@ last_snoc : (image wanted : List ℕ) (e : Entry) (d : List Label) (l : Label)
     → last_of image wanted e (d ++ (l ∷ [])) ≡ cond (same wanted (name_of image l)) (entry l.target) (last_of image wanted e d)
 unfolding last_of
 last_snoc image wanted e [] l = refl
-last_snoc image wanted e (k ∷ d) l = last_snoc image wanted _ d l
+last_snoc image wanted e (k ∷ d) l = last_snoc image wanted (cond (same wanted (name_of image k)) (entry k.target) e) d l
 
 -- the definitions of a name among the instructions `is`, and with i behind them
 module _ (image : List ℕ) (is : List Inst) (i : Inst) where
@@ -151,7 +151,7 @@ chain_more image is i labels n c =
       labels-are = c.labels-are;
       fit = c.fit;
       definitions = λ j l. more image _ _ j _ (rw (size image is i) (omega arith)) (c.definitions j l);
-      last-are = λ wanted. last-kept image is i wanted (λ l. eqb-false i.typ 21 n l.is-label) _ (c.last-are wanted);
+      last-are = λ wanted. last-kept image is i wanted (λ l. eqb-false i.typ 21 n l.is_label_lem) _ (c.last-are wanted);
     }
 
 label-name : (image : List ℕ) (i : Inst) → is_label i ≡ true → well_formed image i ≡ true → name_in image i.start i.len ≡ true
@@ -181,7 +181,7 @@ module _ (image : List ℕ) (is : List Inst) (i : Inst) (label : is_label i ≡ 
       rw (last_snoc image wanted no_entry d (new k))
       (by_test (LastIs image (is ++ (i ∷ [])) wanted) (same wanted (name_of image (new k))) _ _
       (λ e. last_new image is i wanted (record { is_label_lem = eqb-true i.typ 21 label; name_is = sym (same_is wanted _ e) }))
-      (λ e. last-kept image is i wanted (λ l. never (sym e ∙ (rw l.name-is (same_self wanted)))) _ h))
+      (λ e. last-kept image is i wanted (λ l. never (sym e ∙ (rw l.name_is (same_self wanted)))) _ h))
 
   -- linked first: it stands last in the table and leads to the one before
   chain_linked : (labels : List Label) → Chain image is labels → leb label_records (length labels) ≡ false

@@ -55,7 +55,7 @@ pub record IsHistory (p : Program) (s : State) (q : Request) (r : Result) : Type
 -- of every run, from every state with as many open calls as its machine has return addresses
 abbrev pub RunsAreHistories : Type 0
 RunsAreHistories =
-    (p : Program) (s : State) (q : Request) → height_of_calls s.machine ≡ length s.open-calls
+    (p : Program) (s : State) (q : Request) → height_of_calls s.machine ≡ length s.open_calls
     → IsHistory p s q (run p q.limit q.buffer s.machine)
 
 -- and no other result is that history, so that nothing about a run is left free
@@ -86,7 +86,7 @@ addresses m = take (height_of_calls m) m.calls
 -- at a point of the history, what is counted is the machine's: its height, and the return addresses are one past the open calls
 pub record Counted (s : State) : Type 0 where
   pub height_is : s.height ≡ pos s.machine.height
-  pub addresses-are : addresses s.machine ≡ map suc s.open-calls
+  pub addresses-are : addresses s.machine ≡ map suc s.open_calls
 
 unfoldable pub AllBelow : ℕ → List ℕ → Type 0
 AllBelow n [] = Unit {0}

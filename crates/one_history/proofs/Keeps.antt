@@ -95,7 +95,7 @@ Told (Number n) = (20 ≤ n) × (n ≤ 34)
 why_told : (p : Program) (s : State) (steps limit dumped room : ℕ) (m : Machine) (n : ℕ) → Why p s steps limit dumped room m n → (20 ≤ n) × (n ≤ 34)
 why_told p s steps limit dumped room m n (is_ill_lem e i h k) = (omega arith, omega arith)
 why_told p s steps limit dumped room m n (is_full e i f h k) = (omega arith, omega arith)
-why_told p s steps limit dumped room m n (is_trap k u e h t) = let l = traps_leave p u.machine n m t in (l.number-from, omega (arith, l.number-to))
+why_told p s steps limit dumped room m n (is_trap k u e h t) = let l = traps_leave p u.machine n m t in (l.number_from, omega (arith, l.number_to))
 
 because_told : (p : Program) (s : State) (steps limit dumped room : ℕ) (m : Machine) (e : Ending) → Because p s steps limit dumped room m e → Told e
 unfolding Because

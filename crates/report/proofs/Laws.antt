@@ -47,7 +47,7 @@ copied t w at h =
 -- one behind the other
 pub put_both : {t t₁ t₂ v w : List ℕ} {at i j : ℕ} → Put t at v t₁ i → Put t₁ i w t₂ j → Put t at (v ++ w) t₂ j
 put_both {t} {v = v} {w = w} {at = at} p q =
-    record { text_is = q.text_is ∙ rw (p.text-is, p.next-is) (sets_more v t w at); next_is = omega (arith, length-append v w) }
+    record { text_is = q.text_is ∙ rw (p.text_is, p.next_is) (sets_more v t w at); next_is = omega (arith, length-append v w) }
 
 -- the lines of the cells from the i-th on
 pub lines_next : (cells : List ℕ) (i : ℕ) → i < length cells
@@ -68,7 +68,7 @@ lines_append (cell ∷ cells) more = rw (lines_append cells more) (sym (append_a
 pub put_next : {t t₁ line : List ℕ} {at i : ℕ} (lines rest whole : List ℕ) → lines ≡ line ++ rest → sets t at lines ≡ whole → Put t at line t₁ i
     → sets t₁ i rest ≡ whole
 put_next {t} {line = line} {at = at} lines rest whole e w p =
-    rw (p.text-is, p.next-is) (sets_more line t rest at) ∙ ap (sets t at) (sym e) ∙ w
+    rw (p.text_is, p.next_is) (sets_more line t rest at) ∙ ap (sets t at) (sym e) ∙ w
 
 -- how long the lines are
 length_digits : (b k n : ℕ) → length (last_digits b k n) ≡ k

@@ -58,9 +58,9 @@ encodes : (image insts' : List ℕ) (is : List Inst) (l : Loaded) (count : ℕ) 
 encodes image insts' is l count written e n w =
     record {
       asks = λ r h. means-size r (length written) (h ∙ rw (e, n) w.size_is);
-      writes = λ out r out' h. (let output_is : out' ≡ written_into written out = h.output_is ∙ rw (e, n) (w.output-is out) in
+      writes = λ out r out' h. (let output_is : out' ≡ written_into written out = h.output_is ∙ rw (e, n) (w.output_is out) in
           record {
-            answer_is = means_either r (length written) (leb (length written) (length out)) (h.answers ∙ rw (e, n) (w.answer-is out));
+            answer_is = means_either r (length written) (leb (length written) (length out)) (h.answers ∙ rw (e, n) (w.answer_is out));
             output_is = output_is;
             front_is = λ l. ap (take (length written)) output_is ∙ front written out l;
           });
@@ -108,7 +108,7 @@ module _ (image insts : List ℕ) (l : Loaded) (w : Rewritten image (insts_of in
   loads_again : (insts₂ labels₂ : List ℕ) (r : Loading) (insts₂' labels₂' : List ℕ) → inst_limit ≤ length (insts_of insts₂) → label_records ≤ length (labels_of labels₂)
       → FromBinary w.written insts₂ labels₂ r insts₂' labels₂' → LoadsAgain l l.ip (count_of l) w.written insts₂ labels₂ r insts₂' labels₂'
   loads_again insts₂ labels₂ r insts₂' labels₂' h k f =
-      let e : load_of w.written insts₂ labels₂ ≡ loaded_again l w.written = w.loads-again (insts_of insts₂) (labels_of labels₂) h k in
+      let e : load_of w.written insts₂ labels₂ ≡ loaded_again l w.written = w.loads_again (insts_of insts₂) (labels_of labels₂) h k in
       let insts-are : insts₂' ≡ insts_left (loaded_again l w.written) insts₂ = f.insts-are ∙ ap (λ (x : Load). insts_left x insts₂) e in
       let same : length w.written ≤ image_limit → loaded_again l w.written ≡ accepts l =
       λ s. ap (λ (b : Bool). cond b (accepts l) (rejects 1)) (le-leb (length w.written) image_limit s) in

@@ -37,7 +37,7 @@ module _ (image insts' : List ℕ) (is : List Inst) (l : Loaded) (count : ℕ) (
   unfolding host.encode_call
   call_is out =
       let q = numbers_by (leb (length written) (length out)) (length written) in
-      rw (e, n, w.output-is out, w.answer-is out, q.0, q.1)
+      rw (e, n, w.output_is out, w.answer_is out, q.0, q.1)
 
   host_encodes : HostEncodes image insts' count written
   unfolding host.size_call host.encoded_numbers
@@ -76,7 +76,7 @@ host_calls_are_rewritten image insts labels machine r bytes e z =
       accepted = x.1;
       leaves = sym q;
       wrote = host_written image insts r.insts l r.count w (sym (ap (λ (c : host.LoadCall). c.insts) q)) (sym (ap (λ (c : host.LoadCall). c.count) q));
-      loads_again = λ insts₂ labels₂ machine₂ i k m. load_is w.written insts₂ labels₂ machine₂ _ m (w.loads-again (insts_of insts₂) (labels_of labels₂) i k);
+      loads_again = λ insts₂ labels₂ machine₂ i k m. load_is w.written insts₂ labels₂ machine₂ _ m (w.loads_again (insts_of insts₂) (labels_of labels₂) i k);
     }
 
 pub record_calls_are_rewritten : RecordCallsAreRewritten
@@ -91,5 +91,5 @@ record_calls_are_rewritten image insts labels r bytes e z =
       accepted = x.1;
       leaves = sym q;
       wrote = host_written image insts r.insts l r.count w (sym (ap (λ (c : records.LoadCall). c.insts) q)) (sym (ap (λ (c : records.LoadCall). c.count) q));
-      loads_again = λ insts₂ labels₂ i k. ap (λ (x : Load). records.loaded_by x insts₂ labels₂) (w.loads-again (insts_of insts₂) labels₂ i k);
+      loads_again = λ insts₂ labels₂ i k. ap (λ (x : Load). records.loaded_by x insts₂ labels₂) (w.loads_again (insts_of insts₂) labels₂ i k);
     }

@@ -40,4 +40,4 @@ printed_short image = printed_of_short image _ _ _
 pub put_fits : (image : List ℕ) {t t' : List ℕ} {n : ℕ} → t ≡ blank_text → Put t 0 (printed image) t' n → n ≤ length t'
 unfolding blank_text
 put_fits image {t} b p =
-    omega (arith, ap length b, length-replicate {A = ℕ} text_size 0, p.next-is, printed_short image, ap length p.text-is, length-sets t 0 (printed image))
+    omega (arith, ap length b, length-replicate {A = ℕ} text_size 0, p.next_is, printed_short image, ap length p.text_is, length-sets t 0 (printed image))
