@@ -8,7 +8,6 @@ use lib.Dec.{eqb, ltb}
 use lib.ListN.{length, get_or, set, length-set}
 use lib.Seq.{get_or-set_same, get_or-set_other}
 use borrow.Author.Tests.{eqb-true, eqb-false, ltb-true, le-ltb}
-use types.Run.{OneOf}
 use denote.Enum.Declared.{tag_of}
 use native.Mathlib.Omega.{arith}
 use Rattle.step_core.specs.contracts.LookedUp.{the_type}
@@ -48,16 +47,11 @@ module _ {keys targets : List ℕ} {at op : ℕ} where
   pub is_target : {found : LookedUp} {t : ℕ} {keys' targets' : List ℕ} → found ≡ Target t → KeepsTarget keys targets at op (Target t) keys' targets' → KeepsJump keys targets at op found keys' targets'
   is_target e q = rw e (record { are = q })
 
-  pub no_target : (found : LookedUp) → OneOf (0 ∷ 1 ∷ 2 ∷ []) (tag_of the_type found) → KeepsJump keys targets at op found keys targets
+  pub no_target : (found : LookedUp) → ((t : ℕ) → found ≡ Target t → ⊥) → KeepsJump keys targets at op found keys targets
   no_target NotAsked k = record { are = (refl, refl) }
   no_target NoLabel k = record { are = (refl, refl) }
   no_target IllChain k = record { are = (refl, refl) }
-  no_target (Target t) k = absurd (other k)
-    where
-      other : OneOf (0 ∷ 1 ∷ 2 ∷ []) 3 → ⊥
-      other (inl e) = omega arith
-      other (inr (inl e)) = omega arith
-      other (inr (inr e)) = omega arith
+  no_target (Target t) k = absurd (k t refl)
 
   pub no_slot : (found : LookedUp) → known_limit ≤ at → KeepsJump keys targets at op found keys targets
   no_slot NotAsked h = record { are = (refl, refl) }

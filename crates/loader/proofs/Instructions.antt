@@ -5,7 +5,6 @@ use mathlib.Core.Logic.{⊎_elim}
 use mathlib.Core.List.{List, [], ◌∷◌, ◌++◌}
 use native.Mathlib.Omega.{arith}
 use lib.ListN.{length}
-use types.Run.{OneOf}
 use denote.Enum.Declared.{tag_of}
 use borrow.Author.Tests.{eq-eqb, ne_eqb, le-leb, lt-leb}
 use Rattle.inst.specs.declared.Inst.{Inst}
@@ -23,12 +22,12 @@ use Rattle.loader.specs.Reading.{number_in, counts_of, counted, labelled, next_o
 use Rattle.loader.proofs.Scans.{counts_plain, counts_label}
 
 -- what isn't read is refused
-pub refused_is : (d : Decoded) → OneOf (0 ∷ 1 ∷ 2 ∷ []) (tag_of the_type d) → means d ≡ refused (number_in (means d))
+pub refused_is : (d : Decoded) → ((i : Inst) (size : ℕ) → d ≡ D.Read i size → ⊥) → means d ≡ refused (number_in (means d))
 unfolding means number_in
 refused_is D.Undefined k = refl
 refused_is D.PastEnd k = refl
 refused_is D.BadName k = refl
-refused_is (D.Read i size) k = absurd (⊎_elim (λ e. omega arith) (λ r. ⊎_elim (λ e. omega arith) (λ e. omega arith) r) k)
+refused_is (D.Read i size) k = absurd (k i size refl)
 
 -- of a scan s, of which the code keeps c
 module _ (image : List ℕ) (c : Counts) (s : Scan) (e : c ≡ counts_of image s) where

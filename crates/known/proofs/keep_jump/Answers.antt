@@ -1,0 +1,17 @@
+-- `known::keep_jump` meets its contract. Assumes nothing.
+use borrow.Author.Tests.{lt-ltb, le-ltb}
+use Rattle.known.proofs.Keeping.{is_target, no_target, no_slot}
+use borrow.Author.Rules.{rules}
+use Rattle.known.proofs.keep_jump.Goals as goal
+
+pub returns-then-t-lt65536 : goal.returns-then-t-lt65536
+returns-then-t-lt65536 c = is_target c.in-Target.is (simp (lt-ltb _ _ c.if-at-lt-KNOWN_LIMIT.true, lt-ltb _ _ c.if-t-lt65536.true), simp (lt-ltb _ _ c.if-at-lt-KNOWN_LIMIT.true, lt-ltb _ _ c.if-t-lt65536.true))
+
+pub returns-else-t-lt65536 : goal.returns-else-t-lt65536
+returns-else-t-lt65536 c = is_target c.in-Target.is (simp (lt-ltb _ _ c.if-at-lt-KNOWN_LIMIT.true, le-ltb _ _ c.if-t-lt65536.false), simp (lt-ltb _ _ c.if-at-lt-KNOWN_LIMIT.true, le-ltb _ _ c.if-t-lt65536.false))
+
+pub returns-in_default : goal.returns-in_default
+returns-in_default c = no_target _ c.in_default.not-Target
+
+pub returns-else-at-lt-KNOWN_LIMIT : goal.returns-else-at-lt-KNOWN_LIMIT
+returns-else-at-lt-KNOWN_LIMIT c = no_slot _ c.if-at-lt-KNOWN_LIMIT.false

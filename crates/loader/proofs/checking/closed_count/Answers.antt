@@ -1,0 +1,6 @@
+-- `loader::checking::closed_count` meets its contract. Assumes nothing.
+use borrow.Author.Rules.{rules}
+use Rattle.loader.proofs.checking.closed_count.Goals as goal
+
+pub returns-else-halt : goal.returns-else-halt
+returns-else-halt c = rw c.if-halt.false

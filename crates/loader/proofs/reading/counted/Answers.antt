@@ -1,0 +1,6 @@
+-- `loader::reading::counted` meets its contract. Assumes nothing.
+use borrow.Author.Rules.{rules}
+use Rattle.loader.proofs.reading.counted.Goals as goal
+
+pub returns : goal.returns
+returns c = rw (← c.either.ensures)

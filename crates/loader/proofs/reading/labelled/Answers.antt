@@ -1,0 +1,6 @@
+-- `loader::reading::labelled` meets its contract. Assumes nothing.
+use borrow.Author.Rules.{rules}
+use Rattle.loader.proofs.reading.labelled.Goals as goal
+
+pub returns : goal.returns
+returns c = rw (← c.either.ensures, ← c.chosen.ensures)

@@ -1,0 +1,18 @@
+-- `lookup::lookup` meets its contract. Assumes nothing.
+use mathlib.Core.Path.{sym}
+use mathlib.Core.List.{List, []}
+use native.Mathlib.Omega.{arith}
+use borrow.Author.Rules.{rules}
+use Rattle.inst.specs.declared.Inst.{Inst}
+use Rattle.machine.specs.Load.{head}
+use Rattle.tables.specs.Tables.{labels_of, label}
+use Rattle.tables.proofs.Laws.{length_records}
+use Rattle.lookup.specs.Walks.{lent_program, Walks}
+use Rattle.lookup.proofs.Bytes.{in_image}
+use Rattle.lookup.proofs.lookup.Given as goal
+
+abbrev pub invariant-loop-w : goal.invariant-loop-w
+invariant-loop-w l = (insts : List Inst) → Walks (lent_program l.image insts (labels_of l.labels) l.count) l.start l.len l.w
+
+abbrev pub decreases-loop-w : goal.decreases-loop-w
+decreases-loop-w l = l.w.bound

@@ -1,0 +1,7 @@
+-- `lookup::names::matches` meets its contract. Assumes nothing.
+use Rattle.inst.proofs.Laws.{slice_of}
+use borrow.Author.Rules.{rules}
+use Rattle.lookup.proofs.names.matches.Goals as goal
+
+pub returns : goal.returns
+returns c = simp slice_of at c.same_name.ensures
