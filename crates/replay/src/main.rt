@@ -6,8 +6,8 @@ ghost use Rattle.std.specs.Prelude.{◌+◌, ◌≤◌, ◌<◌, length};
 ghost use Rattle.replay.specs.Reading.{Lies, Fits};
 
 use digests::{DIGEST, Replayed, replay_image};
-use libc::{STDIN_FILENO, STDOUT_FILENO};
 use loader::{INST_BYTES, LABEL_BYTES};
+use std::io::Read;
 
 // More bytes than the sample has.
 const INPUT: usize = 262144;
@@ -36,6 +36,7 @@ fn half_word(low: u8, high: u8) -> usize
 }
 
 // The record of an accepted image of `len` bytes: behind its number 0, how many digests, and each.
+#[tactic(auto, unfolding(crate::specs::Reading::Fits))]
 fn parse_accepted(bytes: &[u8], at: usize, len: usize) -> Parsed
     requires { at + len + 2 < length bytes.now }
     ensures { Fits (length bytes.now) at result }
@@ -61,6 +62,7 @@ fn parse_accepted(bytes: &[u8], at: usize, len: usize) -> Parsed
 }
 
 // The record at `at`: an image, and the number of its refusal or 0 and its digests.
+#[tactic(auto, unfolding(crate::specs::Reading::Fits))]
 fn parse(bytes: &[u8], at: usize) -> Parsed
     requires { at ≤ length bytes.now }
     ensures { Fits (length bytes.now) at result }
@@ -108,38 +110,40 @@ fn replay_record(bytes: &[u8], r: Record) -> Replayed
     )
 }
 
-fn print(word: &[u8], number: usize) {
-    io::write_all(STDOUT_FILENO, word);
-    io::print_decimal(STDOUT_FILENO, number as u64);
+// A word and a number. What can't be written is passed over, here and below.
+fn print(rt: &impl Print, word: &[u8], number: usize) {
+    let _ = rt.write_all(word);
+    let _ = rt.print(number);
 }
 
-fn report_malformed(at: usize) {
-    print(b"no record at byte ", at);
-    io::write_all(STDOUT_FILENO, b"\n");
+fn report_malformed(rt: &impl Print, at: usize) {
+    print(rt, b"no record at byte ", at);
+    let _ = rt.write_all(b"\n");
 }
 
 // A line where the image differs from what was recorded. 1 if so.
-fn report_difference(image: usize, done: Replayed) -> usize
+fn report_difference(rt: &impl Print, image: usize, done: Replayed) -> usize
     ensures { result ≤ 1 }
 {
     if done.same {
         return 0;
     }
-    print(b"image ", image);
-    print(b" differs after step ", done.steps);
-    io::write_all(STDOUT_FILENO, b"\n");
+    print(rt, b"image ", image);
+    print(rt, b" differs after step ", done.steps);
+    let _ = rt.write_all(b"\n");
     1
 }
 
-fn report_totals(images: usize, steps: usize, differ: usize) {
-    print(b"", images);
-    print(b" images, ", steps);
-    print(b" steps, ", differ);
-    io::write_all(STDOUT_FILENO, b" differ\n");
+fn report_totals(rt: &impl Print, images: usize, steps: usize, differ: usize) {
+    print(rt, b"", images);
+    print(rt, b" images, ", steps);
+    print(rt, b" steps, ", differ);
+    let _ = rt.write_all(b" differ\n");
 }
 
 // Each record of the file, up to the first that isn't one.
-fn replay(bytes: &[u8]) {
+#[tactic(auto, unfolding(crate::specs::Reading::Fits))]
+fn replay(rt: &impl Print, bytes: &[u8]) {
     let mut at: usize = 0;
     let mut images: usize = 0;
     let mut steps: usize = 0;
@@ -147,20 +151,35 @@ fn replay(bytes: &[u8]) {
     while at < bytes.len() {
         let parsed = parse(bytes, at);
         let Parsed::Found(r) = parsed else {
-            report_malformed(at);
+            report_malformed(rt, at);
             break;
         };
         let done = replay_record(bytes, r);
-        differ += report_difference(images, done);
+        differ += report_difference(rt, images, done);
         images += 1;
         steps += done.steps;
         at = r.next;
     }
-    report_totals(images, steps, differ);
+    report_totals(rt, images, steps, differ);
 }
 
-fn main() {
+// Reads until the buffer is full, the input ends or a read fails, and answers how many bytes it put at the buffer's front.
+fn read_full(input: &mut impl Read, buffer: &mut [u8]) -> usize
+    ensures { result ≤ length buffer.new }
+{
+    let mut at: usize = 0;
+    while at < buffer.len() {
+        let count = input.read(&mut buffer[at..]).unwrap_or(0);
+        if count == 0 {
+            break;
+        }
+        at += count;
+    }
+    at
+}
+
+fn main(rt: HostRuntime) {
     let mut bytes = [0u8; INPUT];
-    let size = io::read_full(STDIN_FILENO, &mut bytes);
-    replay(&bytes[..size]);
+    let size = read_full(&mut rt.stdin(), &mut bytes);
+    replay(&rt, &bytes[..size]);
 }

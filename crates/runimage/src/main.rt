@@ -5,8 +5,8 @@
 ghost use Rattle.std.specs.Prelude.{length};
 ghost use Rattle.runimage.specs.Reading.{Fits};
 
-use libc::{STDERR_FILENO, STDIN_FILENO, STDOUT_FILENO};
 use loader::IMAGE_LIMIT;
+use std::io::Read;
 
 // One byte more than an image may have: so many bytes are refused 1, as are more.
 const INPUT: usize = IMAGE_LIMIT + 1;
@@ -18,17 +18,16 @@ enum Input {
     Unreadable,
 }
 
-// Reads until the input ends or the buffer is full.
-fn read_input(buffer: &mut [u8]) -> Input
+// Reads until the input ends or the buffer is full. A read that fails isn't tried again.
+#[tactic(auto, unfolding(crate::specs::Reading::Fits))]
+fn read_input(input: &mut impl Read, buffer: &mut [u8]) -> Input
     ensures { Fits (length buffer.old) result }
 {
     let mut at: usize = 0;
     while at < buffer.len() {
-        let got = libc::read(STDIN_FILENO, &mut buffer[at..]);
-        if got < 0 {
+        let Ok(count) = input.read(&mut buffer[at..]) else {
             return Input::Unreadable;
-        }
-        let count = io::count(got, &buffer[at..]);
+        };
         if count == 0 {
             return Input::Image(at);
         }
@@ -37,14 +36,16 @@ fn read_input(buffer: &mut [u8]) -> Input
     Input::Image(at)
 }
 
-fn main() {
+// What can't be written is passed over.
+#[tactic(auto, unfolding(crate::specs::Reading::Fits))]
+fn main(rt: HostRuntime) {
     let mut image = [0u8; INPUT];
-    let input = read_input(&mut image);
+    let input = read_input(&mut rt.stdin(), &mut image);
     let Input::Image(n) = input else {
-        io::write_all(STDERR_FILENO, b"runimage: standard input can't be read\n");
+        let _ = rt.eprintln("runimage: standard input can't be read");
         return;
     };
     let mut text = transcript::blank_text();
     let size = transcript::run_image(&image[..n], &mut text);
-    io::write_all(STDOUT_FILENO, &text[..size]);
+    let _ = rt.write_all(&text[..size]);
 }
