@@ -13,6 +13,7 @@ fn number(b: bool) -> u64
 }
 
 #[unsafe(no_mangle)]
+#[tactic(auto, unfolding(crate::specs::Apply::applied))]
 pub extern "C" fn float64_apply(n: u64, a: u64, b: u64) -> u64
     ensures { result ≡ applied n a b }
 {

@@ -42,8 +42,7 @@ fn answered(checked: Checked) -> LoadAnswer
 
 // mm's from_binary. A label record is linked first: it leads to what the head led to, and the head to it. At index 0 it is the
 // head itself, zero.
-#[unsafe(no_mangle)]
-pub extern "C" fn mm_load_labels(image: &[u8], insts: &mut [u8], labels: &mut [Label]) -> LoadAnswer
+pub fn mm_load_labels(image: &[u8], insts: &mut [u8], labels: &mut [Label]) -> LoadAnswer
     ensures { load_call image.now insts.old labels.old ≡ record { number = result.number; ip = result.ip; count = result.count; insts = insts.new; labels = labels.new } }
 {
     let checked = load_insts(image, insts, labels.len());

@@ -71,8 +71,7 @@ pub fn execute_program(
 
 // The entry by exclusive reference: the machine that the run leaves stands in the place of the one that was lent, and the
 // answer is numbers, so that a host can call it. The archive's only caller of execute_program.
-#[unsafe(no_mangle)]
-pub extern "C" fn mm_run_in_place(
+pub fn mm_run_in_place(
     image: &[u8],
     insts: &[u8],
     labels: &[Label],

@@ -28,8 +28,7 @@ pub struct Encoded {
 }
 
 // The archive's only caller of from_binary.
-#[unsafe(no_mangle)]
-pub extern "C" fn mm_load(
+pub fn mm_load(
     image: &[u8],
     insts: &mut [u8],
     labels: &mut [u8],
@@ -77,8 +76,7 @@ fn ran(left: Progress, limit: u64) -> Ran
 
 // The machine's arrays are copied once in and once out: by value they would be copied four times. The archive's only caller of
 // execute_parts: a second one would cost its speed.
-#[unsafe(no_mangle)]
-pub extern "C" fn mm_run(
+pub fn mm_run(
     image: &[u8],
     insts: &[u8],
     labels: &[u8],
@@ -138,16 +136,14 @@ fn encoded_numbers(answer: Written) -> Encoded
     }
 }
 
-#[unsafe(no_mangle)]
-pub extern "C" fn mm_encode(image: &[u8], insts: &[u8], count: u64, out: &mut [u8]) -> Encoded
+pub fn mm_encode(image: &[u8], insts: &[u8], count: u64, out: &mut [u8]) -> Encoded
     ensures { encode_call image.now insts.now count out.old ≡ record { number = result.number; size = result.size; out = out.new } }
 {
     encoded_numbers(to_binary(image, insts, count as usize, out))
 }
 
 // The size that mm_encode needs and then answers, without writing.
-#[unsafe(no_mangle)]
-pub extern "C" fn mm_encoded_size(image: &[u8], insts: &[u8], count: u64) -> Encoded
+pub fn mm_encoded_size(image: &[u8], insts: &[u8], count: u64) -> Encoded
     ensures { result ≡ size_call image.now insts.now count }
 {
     encoded_numbers(encoded_size(image, insts, count as usize))
