@@ -16,14 +16,6 @@ use Rattle.step_core.specs.declared.Registers.{Registers}
 use Rattle.step_core.specs.Parts.{height_of_calls, of_parts}
 use Rattle.machine_bytes.specs.Layout.{calls_at, memory_at, height_at, call_height_at, ip_at, flags_at, halted_at, machine_size, machine_bytes}
 
--- a copy over as many bytes
-pub copied : (src dst ys : List ℕ) → length src ≡ length dst → ys ≡ take (length src) src ++ drop (length src) dst → ys ≡ src
-copied src dst ys e q =
-    q
-    ∙ ap (λ (y : List ℕ). y ++ drop (length src) dst) (take-length src)
-    ∙ ap (λ (y : List ℕ). src ++ y) (drop_of_length-le dst {i = length src} (omega arith))
-    ∙ append-nil src
-
 -- the memory's part
 pub part-long : (m : List ℕ) → length m ≡ machine_size → length (take (height_at - memory_at) (drop memory_at m)) ≡ memory_size
 part-long m h = length-take-le memory_size (drop memory_at m) (omega (arith, length-drop memory_at m))
@@ -40,15 +32,14 @@ module _ (s ca me : List ℕ) (ls : length s ≡ stack_limit) (lc : length ca �
   length-arrays = length-append stacks me ∙ omega (arith, length_stacks)
 
   pub arrays_stored : (m m1 m2 ys : List ℕ) → length m ≡ machine_size → m1 ≡ sets m 0 (bytes_of s) → m2 ≡ sets m1 calls_at (bytes_of ca)
-      → ys ≡ take (length me) me ++ drop (length me) (take (height_at - memory_at) (drop memory_at m2))
+      → ys ≡ me
       → take memory_at m2 ++ (ys ++ drop (height_at - memory_at) (drop memory_at m2)) ≡ sets m 0 (stacks ++ me)
-  arrays_stored m m1 m2 ys long p q copy =
+  arrays_stored m m1 m2 ys long p q r =
       let k : calls_at ≡ 0 + length (bytes_of s) = omega (arith, length_bytes s) in
       let w : memory_at ≡ 0 + length stacks = omega (arith, length_stacks) in
       let both : m2 ≡ sets m 0 stacks =
       q ∙ ap (λ (x : List ℕ). sets x calls_at (bytes_of ca)) p ∙ ap (λ (n : ℕ). sets (sets m 0 (bytes_of s)) n (bytes_of ca)) k ∙ sets_more (bytes_of s) m (bytes_of ca) 0 in
       let size : length m2 ≡ machine_size = ap length both ∙ length-sets m 0 stacks ∙ long in
-      let r : ys ≡ me = copied me _ ys (lm ∙ sym (part-long m2 size)) copy in
       let last : length ys ≡ memory_size = ap length r ∙ lm in
       lent-whole m2 ys memory_at height_at (omega arith) (omega arith) last
       ∙ ap (λ (x : List ℕ). sets x memory_at ys) both

@@ -1,0 +1,20 @@
+-- `machine_bytes::read_arrays` meets its contract. Assumes nothing.
+use mathlib.Core.Path.{ap, sym, ◌∙◌}
+use native.Mathlib.Omega.{arith}
+use Rattle.inst.proofs.Laws.{slice_of}
+use Rattle.tables.specs.Tables.{numbers_in}
+use Rattle.machine_bytes.specs.Layout.{machine_of, calls_at, memory_at, height_at}
+use Rattle.machine_bytes.proofs.Fields.{part-long}
+use borrow.Author.Rules.{rules}
+use Rattle.machine_bytes.proofs.read_arrays.Goals as goal
+
+pub copy_from_slice-requires : goal.copy_from_slice-requires
+copy_from_slice-requires c = omega (arith, part-long c.args.machine.now c.requires)
+
+pub returns : goal.returns
+unfolding machine_of
+returns c = (
+  c.read_numbers.ensures ∙ ap numbers_in (slice_of 0 calls_at c.args.machine.now),
+  c.read_numbers-2.ensures ∙ ap numbers_in (slice_of calls_at memory_at c.args.machine.now),
+  c.copy_from_slice.ensures.after ∙ slice_of memory_at height_at c.args.machine.now,
+)

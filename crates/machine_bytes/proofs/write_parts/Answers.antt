@@ -1,0 +1,7 @@
+-- `machine_bytes::write_parts` meets its contract. Assumes nothing.
+use Rattle.machine_bytes.proofs.Fields.{parts_stored}
+use borrow.Author.Rules.{rules}
+use Rattle.machine_bytes.proofs.write_parts.Goals as goal
+
+pub returns : goal.returns
+returns c = parts_stored _ _ _ c.args.machine.now c.args.stack.now c.args.calls.now c.args.memory.now _ _ c.requires c.write_arrays.ensures.machine_after c.write_arrays.ensures.memory_len c.write_registers.ensures

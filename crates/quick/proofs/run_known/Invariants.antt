@@ -1,0 +1,16 @@
+-- `quick::run_known` meets its contract. Assumes nothing.
+use Prim.Native.Nat.{◌-◌}
+use mathlib.Core.Path.{refl}
+use mathlib.Core.Bool.{false}
+use borrow.Author.Rules.{rules}
+use Rattle.step_core.specs.Parts.{of_parts}
+use Rattle.quick.specs.Courses.{Leads}
+use Rattle.quick.proofs.Steps.{begun, success-on, stopped_at}
+use Rattle.quick.proofs.run_known.Given as goal
+
+abbrev pub invariant-loop-left : goal.invariant-loop-left
+invariant-loop-left l =
+    Leads l.insts l.keys l.targets (of_parts l.initial.regs l.f l.initial.stack l.initial.calls l.initial.memory false) l.steps (record { regs = l.regs; left = l.left; flags = l.flags }) l.stack l.calls l.memory
+
+abbrev pub decreases-loop-left : goal.decreases-loop-left
+decreases-loop-left l = l.left
