@@ -1,0 +1,24 @@
+-- `report::put_cell_lines` meets its contract. The invariant: storing the lines that are left gives the whole. Assumes nothing.
+-- the lines that are left
+use Prim.Native.Nat.{ℕ, ◌≤◌, ◌<◌, ◌+◌, ◌*◌, ◌-◌}
+use mathlib.Core.Path.{◌≡◌, refl, ap}
+use native.Mathlib.Omega.{arith}
+use mathlib.Core.List.{List, ◌++◌}
+use lib.ListN.{length, take, drop, length-append}
+use lib.Seq.{sets, length-take-le, get_or-take}
+use borrow.Author.Rules.{rules}
+use Rattle.tables.specs.Tables.{numbers_in, number_at}
+use Rattle.tables.proofs.Bytes.{length_numbers_in}
+use Rattle.report.specs.Text.{cell_line, cell_lines}
+use Rattle.report.proofs.Laws.{lines_next, lines_end, put_next}
+use Rattle.report.proofs.put_cell_lines.Given as goal
+
+abbrev pub invariant-loop-i : goal.invariant-loop-i
+invariant-loop-i l =
+    (l.i ≤ l.n)
+    × (length l.text ≡ length l.initial.text)
+    × (sets l.text l.next (cell_lines (drop l.i (take l.n (numbers_in l.cells)))) ≡ sets l.initial.text l.at (cell_lines (take l.n (numbers_in l.cells))))
+    × (l.next + length (cell_lines (drop l.i (take l.n (numbers_in l.cells)))) ≡ l.at + length (cell_lines (take l.n (numbers_in l.cells))))
+
+abbrev pub decreases-loop-i : goal.decreases-loop-i
+decreases-loop-i l = l.n - l.i
