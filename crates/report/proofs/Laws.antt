@@ -4,15 +4,16 @@ use mathlib.Core.Path.{◌≡◌, refl, sym, ◌∙◌, ap}
 use mathlib.Core.List.{List, [], ◌∷◌, ◌++◌, append_assoc, append-nil}
 use native.Mathlib.Nat.{pow-suc, one-le-pow, pow-le-pow_right, lt_of_not-le, le_of_suc-le-suc}
 use native.Mathlib.Omega.{arith}
-use lib.Dec.{ltb, lit<}
+use lib.Dec.{ltb, lit<, lit≤}
 use lib.ListN.{length, get_or, take, drop, length-append, length-drop, drop_of_length-le}
 use lib.Seq.{sets, sets-eq, take-length, take_all, drop-drop}
 use borrow.Author.Tests.{lt-ltb, le-ltb}
+use Rattle.inst.proofs.Parts.{lent-whole}
 use Rattle.inst.proofs.Laws.{by_test, sets_more, drop-next}
 use Rattle.machine.specs.declared.Ending.{Ending}
 use Rattle.machine.specs.declared.Ending.TheVariants.{Halted, Limit, Number}
 use Rattle.io.specs.Digits.{last_digits, hex_digit_ascii, IsDigitCount}
-use Rattle.report.specs.Text.{numeral, cell_line, cell_lines, ending_text, end_line, refused_line, Put}
+use Rattle.report.specs.Text.{numeral, decimal, cell_line, cell_lines, ending_text, end_line, refused_line, Put}
 
 -- the fewest digits that hold a number are its numeral
 pub fewest_digits : (most k n : ℕ) → k ≤ most → IsDigitCount 10 1 n k → last_digits 10 k n ≡ numeral most n
@@ -37,12 +38,20 @@ fewest_most b least most n k h l m f =
     let q : b ^ most ≤ b ^ (k - 1) = pow-le-pow_right h (omega arith) in
     omega arith))
 
--- a copy into the rest of a text
-pub copied : (t w : List ℕ) (at : ℕ) → at + length w ≤ length t
-    → take at t ++ ((take (length w) w ++ drop (length w) (take (length t - at) (drop at t))) ++ drop (length t - at) (drop at t)) ≡ sets t at w
-copied t w at h =
-    let l : length (drop at t) ≤ length t - at = omega (arith, length-drop at t) in
-    rw (take-length w, take_all (length t - at) (drop at t) l, drop_of_length-le (drop at t) l, append-nil, drop-drop, sets-eq w t at h, append_assoc)
+-- what `io::decimal` wrote
+pub decimal_is : (out : List ℕ) (k n : ℕ) → n < 10 ^ 20 → IsDigitCount 10 1 n k → take k out ≡ last_digits 10 k n → take k out ≡ decimal n
+decimal_is out k n h d e = e ∙ fewest_digits 20 k n (fewest_most 10 1 20 n k (lit< tt) (lit≤ tt) h d) d
+
+-- what `io::hex` wrote
+pub hex_is : (out : List ℕ) (k n : ℕ) → n < 16 ^ 16 → IsDigitCount 16 16 n k → take k out ≡ last_digits 16 k n → take k out ≡ last_digits 16 16 n
+hex_is out k n h d e =
+    let m : k ≤ 16 = fewest_most 16 16 16 n k (lit< tt) (lit≤ tt) h d in
+    let q : k ≡ 16 = omega arith in
+    e ∙ rw q
+
+-- a copy into a text
+pub copied : (t w ys : List ℕ) (at e : ℕ) → at + length w ≡ e → e ≤ length t → ys ≡ w → take at t ++ (ys ++ drop (e - at) (drop at t)) ≡ sets t at w
+copied t w ys at e k h q = rw q (lent-whole t w at e (omega arith) h (omega arith))
 
 -- one behind the other
 pub put_both : {t t₁ t₂ v w : List ℕ} {at i j : ℕ} → Put t at v t₁ i → Put t₁ i w t₂ j → Put t at (v ++ w) t₂ j

@@ -1,0 +1,6 @@
+-- `run::pack` meets its contract. Assumes nothing.
+use borrow.Author.Rules.{rules}
+use Rattle.run.proofs.pack.Goals as goal
+
+pub returns : goal.returns
+returns c = simp c.ending-last.ensures
