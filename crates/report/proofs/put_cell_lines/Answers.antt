@@ -1,5 +1,4 @@
 -- `report::put_cell_lines` meets its contract. The invariant: storing the lines that are left gives the whole. Assumes nothing.
--- the lines that are left
 use Prim.Native.Nat.{ℕ, ◌≤◌, ◌<◌, ◌+◌, ◌*◌, ◌-◌}
 use mathlib.Core.Path.{◌≡◌, refl, ap}
 use native.Mathlib.Omega.{arith}
@@ -15,6 +14,9 @@ use Rattle.report.proofs.put_cell_lines.Goals as goal
 
 front_long : (cells : List ℕ) (n : ℕ) → n * 8 ≤ length cells → length (take n (numbers_in cells)) ≡ n
 front_long cells n h = let l = length_numbers_in cells in length-take-le n (numbers_in cells) (omega arith)
+
+cells-next : (cells : List ℕ) (n i : ℕ) → n * 8 ≤ length cells → i < n → (x : ℕ) → x ≡ number_at cells i
+    → cell_lines (drop i (take n (numbers_in cells))) ≡ cell_line x ++ cell_lines (drop (i + 1) (take n (numbers_in cells)))
 
 cells-next cells n i h l x e =
     let k : i < length (take n (numbers_in cells)) = rw (front_long cells n h) l in
@@ -37,7 +39,7 @@ loop-i-preserved c =
     let e = simp length-append at (ap length next_is) in
     let p = c.put_cell_line-next.ensures in
     let i = c.loop-i.invariant in
-    (search rules, search rules, put_next _ _ _ next_is i.2 p, omega (arith, i.3, p.next-is))
+    (search rules, search rules, put_next _ _ _ next_is i.2 p, omega (arith, i.3, p.next_is))
 
 pub returns : goal.returns
 returns c =

@@ -1,5 +1,4 @@
 -- `report::put_cell_lines` meets its contract. The invariant: storing the lines that are left gives the whole. Assumes nothing.
--- the lines that are left
 use Prim.Native.Nat.{ℕ, ◌≤◌, ◌<◌, ◌+◌, ◌*◌, ◌-◌}
 use mathlib.Core.Path.{◌≡◌, refl, ap}
 use native.Mathlib.Omega.{arith}
