@@ -1,0 +1,22 @@
+-- `digests::replay_image` meets its contract. Assumes nothing.
+use borrow.Author.Rules.{rules}
+use borrow.Author.Tests.{eq-eqb, ne_eqb}
+use Rattle.tables.proofs.Numbers.{length_records}
+use Rattle.digests.specs.Digests.{word}
+use Rattle.digests.proofs.Replaying.{refused_is, accepted_is}
+use Rattle.digests.proofs.replay_image.Goals as goal
+
+pub returns-in-Refused : goal.returns-in-Refused
+returns-in-Refused c =
+    let f = c.from_binary-did.ensures in
+    record { answers = refused_is _ _ _ _ _ _ _ _ c.in-Refused.is f.answers; insts-are = f.insts-are; labels-are = f.labels-are }
+
+pub returns-then-number-eq0 : goal.returns-then-number-eq0
+returns-then-number-eq0 c =
+    let f = c.from_binary-did.ensures in
+    record { answers = accepted_is _ _ _ _ _ _ _ _ _ _ _ _ c.in-Accepted.is f.answers c.fresh.ensures c.agreeing_steps-steps.ensures (rw (eq-eqb _ _ c.if-number-eq0.true, length_records word)); insts-are = f.insts-are; labels-are = f.labels-are }
+
+pub returns-else-number-eq0 : goal.returns-else-number-eq0
+returns-else-number-eq0 c =
+    let f = c.from_binary-did.ensures in
+    record { answers = accepted_is _ _ _ _ _ _ _ _ _ _ _ _ c.in-Accepted.is f.answers c.fresh.ensures c.agreeing_steps-steps.ensures (rw (ne_eqb _ _ c.if-number-eq0.false)); insts-are = f.insts-are; labels-are = f.labels-are }

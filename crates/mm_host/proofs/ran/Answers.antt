@@ -1,0 +1,6 @@
+-- `mm_host::ran` meets its contract. Assumes nothing.
+use borrow.Author.Rules.{rules}
+use Rattle.mm_host.proofs.ran.Goals as goal
+
+pub returns : goal.returns
+returns c = rw (c.ending_number.ensures, c.ending-last.ensures)
