@@ -1,7 +1,8 @@
 -- `label_loader::mm_load_labels` meets its contract. Assumes nothing.
-use Rattle.std.proofs.Common.{◌≡◌, ◌<◌, length, refl, rules, arith}
+use Rattle.std.proofs.Common.{◌<◌, length, refl, arith}
 use Rattle.std.proofs.Math.ListN.{length-set}
 use Rattle.machine.specs.declared.Label.{Label}
+use Rattle.hand_proofs.proofs.Slices.{scaled}
 use Rattle.loader.proofs.Passing.{left-falls}
 use Rattle.label_loader.proofs.Turns.{underway_begins, inside, fit, underway_on, over}
 use Rattle.label_loader.proofs.mm_load_labels.Goals as goal
@@ -12,13 +13,13 @@ loop-l-init c insts₀ f = underway_begins _ _ _ _ _ f _ c.head_link-l.ensures
 pub slice_copy_out-head : goal.slice_copy_out-head
 slice_copy_out-head c =
     let f = c.load_insts-checked.ensures _ refl in
-    omega (arith, inside _ _ _ _ _ f _ _ (c.loop-l.invariant _ f) c.loop-l-test.true)
+    let g : c.loop-l.l.index < length c.loop-l.labels = inside _ _ _ _ _ f _ _ (c.loop-l.invariant _ f) c.loop-l-test.true in
+    omega arith
 
 pub offset_bounds-labels-l : goal.offset_bounds-labels-l
 offset_bounds-labels-l c =
-    let f = c.load_insts-checked.ensures c.args.labels.now refl in
-    let g : c.loop-l.l.index < length c.loop-l.labels = inside _ _ _ _ _ f _ _ (c.loop-l.invariant _ f) c.loop-l-test.true in
-    omega arith
+    let f = c.load_insts-checked.ensures _ refl in
+    record { fits = scaled 32 (length c.loop-l.labels) _ (omega arith) (inside _ _ _ _ _ f _ _ (c.loop-l.invariant _ f) c.loop-l-test.true) }
 
 pub bounds-labels-l : goal.bounds-labels-l
 bounds-labels-l c =
@@ -28,8 +29,8 @@ bounds-labels-l c =
 pub bounds-labels-0 : goal.bounds-labels-0
 bounds-labels-0 c =
     let f = c.load_insts-checked.ensures _ refl in
-    let g = inside _ _ _ _ _ f _ _ (c.loop-l.invariant _ f) c.loop-l-test.true in
-    omega (arith, g, length-set {A = Label})
+    let g : c.loop-l.l.index < length c.loop-l.labels = inside _ _ _ _ _ f _ _ (c.loop-l.invariant _ f) c.loop-l-test.true in
+    omega (arith, length-set {A = Label})
 
 pub next_link-l-requires : goal.next_link-l-requires
 next_link-l-requires c =
