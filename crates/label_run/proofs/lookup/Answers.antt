@@ -1,12 +1,12 @@
 -- `label_run::lookup` meets its contract. Assumes nothing.
-use Rattle.std.proofs.Common.{◌<◌, List, [], length, refl, arith}
+use Rattle.std.proofs.Common.{[], length, refl, arith}
+use Rattle.hand_proofs.proofs.Slices.{scaled}
 use Rattle.lookup.proofs.Bytes.{in_image}
 use Rattle.label_run.proofs.lookup.Goals as goal
 
 pub offset_bounds-labels-w : goal.offset_bounds-labels-w
 offset_bounds-labels-w c =
-    let h : c.loop-w.w.at < length c.args.labels.now = (c.loop-w.invariant []).inside c.loop-w-test.true in
-    omega arith
+    record { fits = scaled 32 (length c.args.labels.now) _ (omega arith) ((c.loop-w.invariant []).inside c.loop-w-test.true) }
 
 pub bounds-labels-w : goal.bounds-labels-w
 bounds-labels-w c = (c.loop-w.invariant []).inside c.loop-w-test.true
