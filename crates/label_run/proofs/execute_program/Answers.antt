@@ -1,5 +1,5 @@
 -- `label_run::execute_program` meets its contract. Assumes nothing.
-use Rattle.std.proofs.Common.{rules, arith}
+use Rattle.std.proofs.Common.{arith}
 use Rattle.label_run.proofs.Runs.{starts, over}
 use Rattle.label_run.proofs.execute_program.Goals as goal
 
