@@ -1,5 +1,1 @@
-pub mod Tests
-pub mod Again
-pub mod Local
-pub mod Words
-pub mod Whole
+pub mod Slices

@@ -1,4 +1,2 @@
-// No code. What proofs by hand share: the words in which a walk is written and its end, a test of a loop, a slice that is lent
-// again, a local or an array that is lent (proofs/).
+// No code. What the crates whose tables are slices of records share (proofs/): a record's place in memory.
 #![tactic(auto)]
-

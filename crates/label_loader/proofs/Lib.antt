@@ -1,3 +1,2 @@
 pub mod Accepted
-mod Turns
-mod Fields
+pub mod Turns

@@ -3,13 +3,10 @@ use Prim.Native.Nat.{ℕ, suc, ◌<◌}
 use mathlib.Core.Path.{◌≡◌, refl, ap, sym, ◌∙◌}
 use mathlib.Core.Bool.{true, false}
 use mathlib.Core.List.{List, [], ◌∷◌, ◌++◌}
-use mathlib.Core.WellFounded.InvImage
-use mathlib.Core.WellFounded.{WellFounded}
 use native.Mathlib.Nat.{zero-add}
 use native.Mathlib.Omega.{arith}
 use lib.ListN.{length, get_or, set, take, drop, length-set}
 use lib.Seq.{sets}
-use lib.WfN.{lt-wf_rel}
 use Rattle.inst.proofs.Laws.{sets_more}
 use Rattle.machine.specs.declared.Label.{Label}
 use Rattle.machine.specs.Load.{head, linked, Load, rejects, accepts, labels_after}
@@ -20,7 +17,7 @@ use Rattle.loader.specs.declared.Checked.{Checked}
 use Rattle.loader.specs.Loading.{checked_of, insts_left, LoadInsts}
 use Rattle.loader.specs.Linking.{head_link, next_link, Covers}
 use Rattle.loader.proofs.Passing as pass
-use Rattle.loader.proofs.Passing.{linked_on, left, left-falls}
+use Rattle.loader.proofs.Passing.{linked_on}
 use Rattle.label_loader.specs.declared.LoadAnswer.{LoadAnswer}
 use Rattle.label_loader.specs.Loading.{load_of, LoadCall, loaded_by, load_call, numbers_of}
 
@@ -53,53 +50,37 @@ unfolding loaded_by checked_of insts_left labels_after numbers_of
 loaded_by_lem (rejects n) insts labels = refl
 loaded_by_lem (accepts l) insts labels = refl
 
--- the answer r, and the instruction table that was filled
-module _ (image insts₀ : List ℕ) (labels₀ : List Label) (r : Checked) (insts : List ℕ) (f : LoadInsts (load_of image insts₀ labels₀) insts₀ r insts) where
-  abbrev pub Holds : Linking → List Label → Type 0
-  Holds = pass.Underway image insts₀ labels₀ labels₀ (λ ls. ls)
+module _ (image insts₀ : List ℕ) (labels₀ : List Label) where
+  abbrev pub Underway : Linking → List Label → Type 0
+  Underway = pass.Underway image insts₀ labels₀ labels₀ (λ ls. ls)
 
-  pub record State : Type 0 where
-    pub p : Linking
-    pub labels : List Label
-    pub holds : Holds p labels
+  -- the answer r, and the instruction table that was filled
+  module _ (r : Checked) (insts : List ℕ) (f : LoadInsts (load_of image insts₀ labels₀) insts₀ r insts) where
+    pub underway_begins : (p : Linking) → p ≡ head_link r → Underway p labels₀
+    underway_begins p e = pass.underway_begins image insts₀ labels₀ labels₀ (λ ls. ls) r f.answers p e refl
 
-  abbrev pub Lower : State → State → Type 0
-  Lower x y = left x.p < left y.p
+    module _ (p : Linking) (labels : List Label) (u : Underway p labels) (on : p.on ≡ true) where
+      -- the label at hand has its place, and the instructions have theirs
+      pub inside : p.index < length labels
+      inside = let k = pass.index-inside image insts₀ labels₀ labels₀ (λ ls. ls) p labels u on in let n = u.labels-long in omega (arith, k, n)
 
-  pub falls : WellFounded Lower
-  falls = InvImage.wf (λ (x : State). left x.p) lt-wf_rel.wf
+      pub fit : Covers insts p
+      fit = pass.covers image insts₀ labels₀ labels₀ (λ ls. ls) p labels u on insts f.insts-are
 
-  abbrev pub begun : (p : Linking) → p ≡ head_link r → State
-  begun p e = record { p = p; labels = labels₀; holds = pass.underway_begins image insts₀ labels₀ labels₀ (λ ls. ls) r f.answers p e refl }
-
-  module _ (x : State) (on : x.p.on ≡ true) where
-    -- the label at hand has its place, and the instructions have theirs
-    pub inside : x.p.index < length x.labels
-    inside = let k = pass.index-inside image insts₀ labels₀ labels₀ (λ ls. ls) x.p x.labels x.holds on in let n = x.holds.labels-long in omega (arith, k, n)
-
-    pub fit : Covers insts x.p
-    fit = pass.covers image insts₀ labels₀ labels₀ (λ ls. ls) x.p x.labels x.holds on insts f.insts-are
-
-    module _ (q : Linking) (e : q ≡ next_link x.p x.p.passed (drop x.p.passed (take x.p.count (insts_of insts)))) where
-      pub holds_on : Holds q (linked_at x.labels x.p)
-      holds_on =
-          let z : 0 < length labels₀ = let a = inside in let b = x.holds.labels-long in omega (arith, a, b) in
-          pass.underway_on image insts₀ labels₀ labels₀ (λ ls. ls) x.p x.labels x.holds on insts f.insts-are q (linked_at x.labels x.p)
-          (λ ls n k. label-more labels₀ x.labels x.p ls z n k) e (linked_long x.labels x.p)
-
-      abbrev pub onward : State
-      onward = record { p = q; labels = linked_at x.labels x.p; holds = holds_on }
-
-      pub lower : left q < left x.p
-      lower = left-falls x.p q (insts_of insts) on e
+      pub underway_on : (q : Linking) → q ≡ next_link p p.passed (drop p.passed (take p.count (insts_of insts))) → Underway q (linked_at labels p)
+      underway_on q e =
+          let z : 0 < length labels₀ = let a = inside in let b = u.labels-long in omega (arith, a, b) in
+          pass.underway_on image insts₀ labels₀ labels₀ (λ ls. ls) p labels u on insts f.insts-are q (linked_at labels p)
+          (λ ls n k. label-more labels₀ labels p ls z n k) e (linked_long labels p)
 
   leaves-are : (y : Load) → pass.leaves image insts₀ labels₀ labels₀ (λ ls. ls) y ≡ labels_after y labels₀
   unfolding pass.leaves labels_after
   leaves-are (rejects n) = refl
   leaves-are (accepts l) = refl
 
-  pub over : (x : State) → x.p.on ≡ false → (a : LoadAnswer) → a ≡ numbers_of r.loading → load_call image insts₀ labels₀ ≡ call a insts x.labels
+  pub over : (r : Checked) (insts : List ℕ) → LoadInsts (load_of image insts₀ labels₀) insts₀ r insts → (p : Linking) (labels : List Label) → Underway p labels → p.on ≡ false
+      → (a : LoadAnswer) → a ≡ numbers_of r.loading → load_call image insts₀ labels₀ ≡ call a insts labels
   unfolding load_call
-  over x o a e =
-      let k = pass.underway_ends image insts₀ labels₀ labels₀ (λ ls. ls) x.p x.labels o x.holds in
+  over r insts f p labels u o a e =
+      let k = pass.underway_ends image insts₀ labels₀ labels₀ (λ ls. ls) p labels o u in
       rw (e, f.answers, f.insts-are, k ∙ leaves-are (load_of image insts₀ labels₀)) (loaded_by_lem (load_of image insts₀ labels₀) insts₀ labels₀)

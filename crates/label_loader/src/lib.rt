@@ -1,5 +1,5 @@
-// The loader whose label table is a lent slice of records, exported for the oracle. The borrow checker doesn't cover a slice of
-// structs, so the one function that holds it is proved by hand, and kept small: it links, and all else is covered.
+// The loader whose label table is a lent slice of records, for the oracle (crate label_loader_c exports it). The one function
+// that holds it is kept small: it links, and all else is elsewhere.
 #![tactic(auto)]
 
 ghost use Rattle.std.specs.Prelude.{◌≡◌};

@@ -1,6 +1,5 @@
 // The lookup and the run over a label table that is a slice of records. The lookup reads one record each turn, and crate
-// lookup's `judge` decides on it; the run is crate run's, which stops where it needs a lookup. Proved by hand: the borrow
-// checker covers no reference to a struct.
+// lookup's `judge` decides on it; the run is crate run's, which stops where it needs a lookup.
 #![tactic(auto)]
 
 ghost use Rattle.std.specs.Prelude.{◌≡◌, List};
@@ -70,7 +69,7 @@ pub fn execute_program(
 }
 
 // The entry by exclusive reference: the machine that the run leaves stands in the place of the one that was lent, and the
-// answer is numbers, so that a host can call it. The archive's only caller of execute_program.
+// answer is numbers, so that a host can call it (crate label_run_c exports it). The archive's only caller of execute_program.
 pub fn mm_run_in_place(
     image: &[u8],
     insts: &[u8],
