@@ -1,4 +1,5 @@
 -- An image that has every instruction of another one at its place is scanned alike, with the same names. Assumes nothing.
+use mathlib.Core.Bool.{cond}
 use Prim.Native.Nat.{ℕ, suc, ◌+◌, ◌<◌}
 use mathlib.Core.Path.{◌≡◌, refl, ap, subst}
 use mathlib.Core.List.{List, [], ◌∷◌, ◌++◌}
@@ -6,12 +7,12 @@ use native.Mathlib.Omega.{arith}
 use lib.ListN.{length, get_or, drop}
 use Rattle.inst.specs.declared.Inst.{Inst}
 use Rattle.inst.specs.Forms.{Form, none, eight, one, name, undefined, form_of}
-use Rattle.inst.specs.Records.{Bytes}
+use Rattle.inst.specs.Records.{Bytes, same}
 use Rattle.inst_decode.specs.Decode.{reads, from_bytes}
 use Rattle.inst_decode.proofs.Facts.{read_in_lem}
 use Rattle.inst_encode.specs.Encode.{bytes_of, operand_bytes, as_bytes}
 use Rattle.machine.specs.declared.Label.{Label}
-use Rattle.machine.specs.Load.{halt, name_of, linked, Scan, Scanned, stops, goes, begin, scan_one, Entry, no_entry, last_of}
+use Rattle.machine.specs.Load.{halt, name_of, linked, Scan, Scanned, stops, goes, begin, scan_one, Entry, no_entry, entry, last_of}
 use Rattle.machine.specs.Encode.{bytes_of_all}
 use Rattle.machine.proofs.Loads.{one_case}
 use Rattle.rewritten.specs.Rewritten.{Begins, first, next, SameName}
@@ -57,7 +58,7 @@ names-linked image w i n (x ∷ ls) h e = names_snoc image w ls (record { start 
 last-same : (image w wanted : List ℕ) (e : Entry) (ls : List Label) → SameNames image w ls → last_of w wanted e ls ≡ last_of image wanted e ls
 unfolding SameNames last_of
 last-same image w wanted e [] h = refl
-last-same image w wanted e (l ∷ ls) h = rw h.0 (last-same image w wanted _ ls h.1)
+last-same image w wanted e (l ∷ ls) h = rw h.0 (last-same image w wanted (cond (same wanted (name_of image l)) (entry l.target) e) ls h.1)
 
 module _ (image w : List ℕ) (bytes : Bytes image)
     (alike : (k at : ℕ) (i : Inst) (size : ℕ) → Begins image k at → from_bytes image at ≡ reads i size → Alike image w at size) where
