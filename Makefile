@@ -38,11 +38,11 @@ staticlib: $(ARCHIVES)
 
 SOURCES := crates.txt $(shell find crates -name out -prune -o \( -name '*.rt' -o -name '*.antt' \) -print)
 
-# The archive of a static library, under the name that its callers know. `rt lib` takes over what checks kept on this machine, not what
-# `rt ci` kept, and proves the rest.
+# The archive of a static library, under the name that its callers know, for every x86-64 processor. `rt lib` takes over what checks kept
+# on this machine, not what `rt ci` kept, and proves the rest.
 define archive
 mkdir -p $(@D)
-cd crates/$(1) && rt lib > ../../target/$(1).log 2>&1 || { cat ../../target/$(1).log; exit 1; }
+cd crates/$(1) && rt lib --cpu x86-64 > ../../target/$(1).log 2>&1 || { cat ../../target/$(1).log; exit 1; }
 cp crates/$(1)/out/lib$(1).a $@
 endef
 
