@@ -1,4 +1,6 @@
-"""What `rt goals CRATE` wrote of a function: its places and its needs. Used by places, expand and fold.
+"""Of the older kit, but for `stop` and `to_root`: today's `rt` writes no such goals, and `rt check` prints the names at each.
+
+What `rt goals CRATE` wrote of a function: its places and its needs. Used by places, expand and fold.
 
 A place is a point of the code at which facts are known: Start, Then1 and Else1 (the two ways of the first `if`), After-x (behind
 the call or statement x), At-loop, In-loop, After-loop. A place has the field `before`, the place before it, and fields of its own
