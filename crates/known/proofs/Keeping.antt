@@ -3,14 +3,11 @@ use Prim.Native.Nat.{ℕ, ◌*◌, ◌<◌, ◌≤◌}
 use mathlib.Core.Path.{◌≡◌, refl, ◌∙◌, sym}
 use mathlib.Core.Bool.{Bool, true, false, cond, not, ◌&&◌}
 use mathlib.Core.Logic.{◌⊎◌, inl, inr, ⊎_elim}
-use mathlib.Core.List.{List, [], ◌∷◌}
+use mathlib.Core.List.{List}
 use lib.Dec.{eqb, ltb}
 use lib.ListN.{length, get_or, set, length-set}
 use lib.Seq.{get_or-set_same, get_or-set_other}
 use borrow.Author.Tests.{eqb-true, eqb-false, ltb-true, le-ltb}
-use denote.Enum.Declared.{tag_of}
-use native.Mathlib.Omega.{arith}
-use Rattle.step_core.specs.contracts.LookedUp.{the_type}
 use Rattle.inst.proofs.Laws.{and_left, and_right}
 use Rattle.inst.specs.Records.{well_formed}
 use Rattle.step_core.specs.declared.LookedUp.{LookedUp}

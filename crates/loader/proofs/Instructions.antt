@@ -1,18 +1,15 @@
 -- The code's answer for one instruction more, by its tests. Assumes nothing.
 use Prim.Native.Nat.{ℕ, ◌+◌, ◌<◌, ◌≤◌}
 use mathlib.Core.Path.{◌≡◌, refl, ap, sym, ◌∙◌}
-use mathlib.Core.Logic.{⊎_elim}
 use mathlib.Core.List.{List, [], ◌∷◌, ◌++◌}
 use native.Mathlib.Omega.{arith}
 use lib.ListN.{length}
-use denote.Enum.Declared.{tag_of}
 use borrow.Author.Tests.{eq-eqb, ne_eqb, le-leb, lt-leb}
 use Rattle.inst.specs.declared.Inst.{Inst}
 use Rattle.inst.specs.Records.{part, same}
 use Rattle.inst_decode.specs.declared.Decoded.{Decoded}
 use Rattle.inst_decode.specs.declared.Decoded.TheVariants as D
 use Rattle.inst_decode.specs.Decode.{refused, reads, means, from_bytes}
-use Rattle.inst_decode.specs.contracts.Decoded.{the_type}
 use Rattle.inst_decode.proofs.Facts.{read_in_lem}
 use Rattle.machine.specs.Limits.{inst_limit, label_records}
 use Rattle.machine.specs.Load.{start_name, linked, Scan, scan_one}

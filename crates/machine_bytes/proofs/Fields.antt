@@ -2,10 +2,10 @@
 use Prim.Native.Nat.{ℕ, ◌+◌, ◌-◌}
 use mathlib.Core.Path.{◌≡◌, refl, ap, sym, ◌∙◌}
 use mathlib.Core.Bool.{Bool, cond}
-use mathlib.Core.List.{List, [], ◌∷◌, ◌++◌, append_assoc, append-nil}
+use mathlib.Core.List.{List, [], ◌∷◌, ◌++◌, append_assoc}
 use native.Mathlib.Omega.{arith}
-use lib.ListN.{length, take, drop, set, length-append, length-drop, drop_of_length-le}
-use lib.Seq.{sets, length-sets, length-take-le, take-length}
+use lib.ListN.{length, take, drop, set, length-append, length-drop}
+use lib.Seq.{sets, length-sets, length-take-le}
 use Rattle.word.specs.Words.{eight_of}
 use Rattle.inst.proofs.Laws.{sets_more}
 use Rattle.machine.specs.Limits.{stack_limit, call_limit, memory_size}

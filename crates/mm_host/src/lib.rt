@@ -28,12 +28,7 @@ pub struct Encoded {
 }
 
 // The archive's only caller of from_binary.
-pub fn mm_load(
-    image: &[u8],
-    insts: &mut [u8],
-    labels: &mut [u8],
-    machine: &mut [u8],
-) -> Loaded
+pub fn mm_load(image: &[u8], insts: &mut [u8], labels: &mut [u8], machine: &mut [u8]) -> Loaded
     ensures { load_call image.now insts.old labels.old machine.old ≡ record { number = result.number; count = result.count; insts = insts.new; labels = labels.new; machine = machine.new } }
 {
     if machine.len() != MACHINE_SIZE {

@@ -1,5 +1,4 @@
 -- `c_answers::ending_number` meets its contract. Assumes nothing.
-use borrow.Author.Rules.{rules}
 use Rattle.c_answers.specs.Endings.{ending_number}
 use Rattle.c_answers.proofs.ending_number.Goals as goal
 

@@ -1,16 +1,16 @@
 -- `digests::agreeing_steps` meets its contract. Assumes nothing.
-use Prim.Native.Nat.{◌-◌, ◌/◌, ◌<◌, ◌≤◌}
+use Prim.Native.Nat.{◌<◌, ◌≤◌}
 use native.Mathlib.Nat.{zero-add}
 use native.Mathlib.Omega.{arith}
 use borrow.Author.Rules.{rules}
 use lib.ListN.{length}
 use Rattle.word.specs.Words.{little_endian}
-use Rattle.tables.specs.Tables.{numbers_in, program, records_of}
+use Rattle.tables.specs.Tables.{numbers_in, records_of}
 use Rattle.tables.proofs.Numbers.{length_records}
 use Rattle.run.specs.Runs.{answer}
 use Rattle.run.proofs.Cells.{cells, in_cells}
 use Rattle.digests.specs.Digests.{word, digest_after}
-use Rattle.digests.proofs.Laws.{Agreeing, agreeing-next, agreeing_differs, agreeing_end}
+use Rattle.digests.proofs.Laws.{agreeing-next, agreeing_differs, agreeing_end}
 use Rattle.digests.proofs.agreeing_steps.Goals as goal
 
 pub loop-i-init : goal.loop-i-init

@@ -1,16 +1,9 @@
 -- `digests::agreeing_steps` meets its contract. Assumes nothing.
-use Prim.Native.Nat.{◌-◌, ◌/◌, ◌<◌, ◌≤◌}
-use native.Mathlib.Nat.{zero-add}
-use native.Mathlib.Omega.{arith}
-use borrow.Author.Rules.{rules}
+use Prim.Native.Nat.{◌-◌, ◌/◌}
 use lib.ListN.{length}
-use Rattle.word.specs.Words.{little_endian}
-use Rattle.tables.specs.Tables.{numbers_in, program, records_of}
-use Rattle.tables.proofs.Numbers.{length_records}
-use Rattle.run.specs.Runs.{answer}
-use Rattle.run.proofs.Cells.{cells, in_cells}
-use Rattle.digests.specs.Digests.{word, digest_after}
-use Rattle.digests.proofs.Laws.{Agreeing, agreeing-next, agreeing_differs, agreeing_end}
+use Rattle.tables.specs.Tables.{program, records_of}
+use Rattle.digests.specs.Digests.{word}
+use Rattle.digests.proofs.Laws.{Agreeing}
 use Rattle.digests.proofs.agreeing_steps.Given as goal
 
 abbrev pub invariant-loop-i : goal.invariant-loop-i

@@ -1,6 +1,4 @@
 -- `digests::digest` meets its contract. Assumes nothing.
-use Prim.Native.Nat.{◌<◌, ◌^◌}
-use borrow.Author.Rules.{rules}
 use lib.Dec.{lit<}
 use Rattle.digests.specs.Digests.{digest_of}
 use Rattle.digests.proofs.Laws.{all_small, parts}

@@ -1,5 +1,4 @@
 -- `digests::digest_at` meets its contract. Assumes nothing.
-use borrow.Author.Rules.{rules}
 use Rattle.tables.proofs.Numbers.{record_at}
 use Rattle.digests.specs.Digests.{word}
 use Rattle.digests.proofs.digest_at.Goals as goal

@@ -1,6 +1,5 @@
 -- `digests::mix` meets its contract. Assumes nothing.
 use native.Mathlib.Omega.{arith}
-use borrow.Author.Rules.{rules}
 use Rattle.digests.specs.Digests.{mixed}
 use Rattle.digests.proofs.Laws.{once-small}
 use Rattle.digests.proofs.mix.Goals as goal

@@ -1,10 +1,8 @@
 -- `digests::mix_bytes` meets its contract. Assumes nothing.
-use Prim.Native.Nat.{◌-◌}
 use mathlib.Core.Path.{refl}
 use native.Mathlib.Omega.{arith}
 use borrow.Author.Rules.{rules}
-use lib.ListN.{length}
-use Rattle.digests.proofs.Laws.{Mixing, mixing_next, mixing_end}
+use Rattle.digests.proofs.Laws.{mixing_next, mixing_end}
 use Rattle.digests.proofs.mix_bytes.Goals as goal
 
 pub loop-i-init : goal.loop-i-init

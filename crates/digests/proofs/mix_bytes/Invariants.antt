@@ -1,10 +1,7 @@
 -- `digests::mix_bytes` meets its contract. Assumes nothing.
 use Prim.Native.Nat.{◌-◌}
-use mathlib.Core.Path.{refl}
-use native.Mathlib.Omega.{arith}
-use borrow.Author.Rules.{rules}
 use lib.ListN.{length}
-use Rattle.digests.proofs.Laws.{Mixing, mixing_next, mixing_end}
+use Rattle.digests.proofs.Laws.{Mixing}
 use Rattle.digests.proofs.mix_bytes.Given as goal
 
 abbrev pub invariant-loop-i : goal.invariant-loop-i

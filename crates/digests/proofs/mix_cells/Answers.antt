@@ -1,9 +1,7 @@
 -- `digests::mix_cells` meets its contract. Assumes nothing.
-use Prim.Native.Nat.{◌-◌}
 use mathlib.Core.Path.{refl}
 use borrow.Author.Rules.{rules}
-use lib.ListN.{length}
-use Rattle.digests.proofs.Laws.{Mixing, mixing_next, mixing_end}
+use Rattle.digests.proofs.Laws.{mixing_next, mixing_end}
 use Rattle.digests.proofs.mix_cells.Goals as goal
 
 pub loop-i-init : goal.loop-i-init

@@ -1,9 +1,7 @@
 -- `digests::mix_cells` meets its contract. Assumes nothing.
 use Prim.Native.Nat.{◌-◌}
-use mathlib.Core.Path.{refl}
-use borrow.Author.Rules.{rules}
 use lib.ListN.{length}
-use Rattle.digests.proofs.Laws.{Mixing, mixing_next, mixing_end}
+use Rattle.digests.proofs.Laws.{Mixing}
 use Rattle.digests.proofs.mix_cells.Given as goal
 
 abbrev pub invariant-loop-i : goal.invariant-loop-i

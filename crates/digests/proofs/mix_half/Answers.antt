@@ -1,6 +1,5 @@
 -- `digests::mix_half` meets its contract. Assumes nothing.
 use mathlib.Core.Path.{refl}
-use borrow.Author.Rules.{rules}
 use Rattle.digests.specs.Digests.{once}
 use Rattle.digests.proofs.mix_half.Goals as goal
 

@@ -1,7 +1,6 @@
 -- `digests::mix_stack` meets its contract. Assumes nothing.
 use mathlib.Core.Path.{sym}
 use native.Mathlib.Nat.{le_of_lt}
-use borrow.Author.Rules.{rules}
 use lib.Seq.{take_all, length-take-le}
 use Rattle.digests.proofs.mix_stack.Goals as goal
 

@@ -1,5 +1,4 @@
 -- `digests::replay_image` meets its contract. Assumes nothing.
-use borrow.Author.Rules.{rules}
 use borrow.Author.Tests.{eq-eqb, ne_eqb}
 use Rattle.tables.proofs.Numbers.{length_records}
 use Rattle.digests.specs.Digests.{word}

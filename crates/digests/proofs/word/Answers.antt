@@ -1,6 +1,5 @@
 -- `digests::word` meets its contract. Assumes nothing.
 use mathlib.Core.Path.{refl}
-use borrow.Author.Rules.{rules}
 use Rattle.digests.specs.Digests.{word}
 use Rattle.digests.proofs.word.Goals as goal
 

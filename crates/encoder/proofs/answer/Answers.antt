@@ -2,7 +2,6 @@
 use mathlib.Core.Path.{sym}
 use Rattle.encoder.specs.Encoder.{means}
 use Rattle.encoder.proofs.Answers.{past_room, room_fits}
-use borrow.Author.Rules.{rules}
 use Rattle.encoder.proofs.answer.Goals as goal
 
 pub returns-then-r : goal.returns-then-r

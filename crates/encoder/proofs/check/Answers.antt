@@ -1,14 +1,12 @@
 -- `encoder::check` meets its contract. Assumes nothing.
-use Prim.Native.Nat.{◌-◌}
 use native.Mathlib.Omega.{arith}
-use borrow.Author.Rules.{rules}
 use Rattle.inst_encode.proofs.Facts.{size-some}
 use Rattle.tables.specs.Tables.{inst, insts_of}
 use Rattle.tables.proofs.Laws.{length_records}
 use Rattle.machine.specs.Encode.{in_room}
 use Rattle.encoder.specs.Encoder.{means}
 use Rattle.encoder.proofs.Answers.{past, ill_len, well_len}
-use Rattle.encoder.proofs.Records.{Checked, checked-none, checked-ill, checked-next, checked_all}
+use Rattle.encoder.proofs.Records.{checked-none, checked-ill, checked-next, checked_all}
 use Rattle.encoder.proofs.check.Goals as goal
 
 pub returns-then-count-insts : goal.returns-then-count-insts

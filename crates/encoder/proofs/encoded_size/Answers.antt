@@ -1,5 +1,4 @@
 -- `encoder::encoded_size` meets its contract. Assumes nothing.
-use borrow.Author.Rules.{rules}
 use Rattle.machine.specs.Encode.{encoded_size}
 use Rattle.encoder.proofs.encoded_size.Goals as goal
 

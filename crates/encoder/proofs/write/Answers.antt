@@ -1,11 +1,9 @@
 -- `encoder::write` meets its contract. Assumes nothing.
-use Prim.Native.Nat.{◌-◌}
 use mathlib.Core.Path.{refl}
 use native.Mathlib.Omega.{arith}
-use borrow.Author.Rules.{rules}
-use Rattle.tables.specs.Tables.{inst, insts_of}
+use Rattle.tables.specs.Tables.{inst}
 use Rattle.tables.proofs.Laws.{length_records}
-use Rattle.encoder.proofs.Records.{Stored, stored_well, stored_fits, stored_next, stored_all}
+use Rattle.encoder.proofs.Records.{stored_well, stored_fits, stored_next, stored_all}
 use Rattle.encoder.proofs.write.Goals as goal
 
 pub loop-i-init : goal.loop-i-init
@@ -22,7 +20,7 @@ pub put_inst-at-requires : goal.put_inst-at-requires
 put_inst-at-requires c =
     let e = c.inst_at-inst.ensures in
     let t = c.loop-i-test.true in
-    let s = c.loop-i.invariant in record { forms_value = c.requires.forms_value; inst_value = stored_well _ _ _ _ _ _ _ s _ t e; inst_in_bounds = stored_fits _ _ _ _ _ _ _ s _ t e; }
+    let s = c.loop-i.invariant in record { forms_value = c.requires.forms_value; inst_value = stored_well _ _ _ _ _ _ _ s _ t e; inst_in_bounds = stored_fits _ _ _ _ _ _ _ s _ t e }
 
 pub overflow_add-at : goal.overflow_add-at
 overflow_add-at c =

@@ -1,11 +1,7 @@
 -- `encoder::write` meets its contract. Assumes nothing.
 use Prim.Native.Nat.{◌-◌}
-use mathlib.Core.Path.{refl}
-use native.Mathlib.Omega.{arith}
-use borrow.Author.Rules.{rules}
-use Rattle.tables.specs.Tables.{inst, insts_of}
-use Rattle.tables.proofs.Laws.{length_records}
-use Rattle.encoder.proofs.Records.{Stored, stored_well, stored_fits, stored_next, stored_all}
+use Rattle.tables.specs.Tables.{insts_of}
+use Rattle.encoder.proofs.Records.{Stored}
 use Rattle.encoder.proofs.write.Given as goal
 
 abbrev pub invariant-loop-i : goal.invariant-loop-i

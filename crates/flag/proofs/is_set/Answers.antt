@@ -2,7 +2,6 @@
 -- Assumes nothing.
 use mathlib.Core.Path.{refl}
 use Rattle.flag.specs.Flags.{is_set}
-use borrow.Author.Rules.{rules}
 use Rattle.flag.proofs.is_set.Goals as goal
 
 pub returns : goal.returns

@@ -1,5 +1,5 @@
 -- `add` meets its contract: the library's sum of the two values has the pattern that crate binary64 defines.
-use Rattle.std.proofs.Common.{◌∙◌, rules}
+use Rattle.std.proofs.Common.{◌∙◌}
 use Rattle.float64.proofs.Operations.{sum_of}
 use Rattle.float64.proofs.add.Goals as goal
 

@@ -1,5 +1,5 @@
 -- `div` meets its contract: the library's quotient of the two values has the pattern that crate binary64 defines.
-use Rattle.std.proofs.Common.{◌∙◌, rules}
+use Rattle.std.proofs.Common.{◌∙◌}
 use Rattle.float64.proofs.Operations.{quotient_of}
 use Rattle.float64.proofs.div.Goals as goal
 

@@ -1,5 +1,5 @@
 -- `from_u64` meets its contract: the library's rounding of a whole number is the definition's, which is exact up to 2 ^ 53.
-use Rattle.std.proofs.Common.{ap, ◌∙◌, rules}
+use Rattle.std.proofs.Common.{ap, ◌∙◌}
 use lib.Ieee.{binary64, to_bits}
 use Rattle.binary64.specs.Binary64.{value}
 use Rattle.binary64.proofs.Rounded.{theorems}

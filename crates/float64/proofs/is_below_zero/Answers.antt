@@ -1,5 +1,4 @@
 -- `is_below_zero` meets its contract: the code's 0.0 is the pattern 0's value.
-use Rattle.std.proofs.Common.{rules}
 use lib.Ieee.{of_bits}
 use Rattle.float64.proofs.Conversions.{below_of}
 use Rattle.float64.proofs.is_below_zero.Goals as goal

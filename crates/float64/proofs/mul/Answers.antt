@@ -1,5 +1,5 @@
 -- `mul` meets its contract: the library's product of the two values has the pattern that crate binary64 defines.
-use Rattle.std.proofs.Common.{◌∙◌, rules}
+use Rattle.std.proofs.Common.{◌∙◌}
 use Rattle.float64.proofs.Operations.{product_of}
 use Rattle.float64.proofs.mul.Goals as goal
 

@@ -1,5 +1,5 @@
 -- `pattern` meets its contract: the one value that differs from itself is the NaN.
-use Rattle.std.proofs.Common.{◌≡◌, false, not, T, sym, ap, ◌∙◌, subst, rules}
+use Rattle.std.proofs.Common.{◌≡◌, false, not, T, sym, ap, ◌∙◌, subst}
 use lib.Ieee.{Float, nan, inf, fin, binary64, ne, is_nan, to_bits}
 use lib.Ieee.Compare.{differs_from_itself}
 use Rattle.float64.proofs.Operations.{nan_bits}

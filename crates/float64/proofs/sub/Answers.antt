@@ -1,5 +1,5 @@
 -- `sub` meets its contract: the library's difference of the two values has the pattern that crate binary64 defines.
-use Rattle.std.proofs.Common.{◌∙◌, rules}
+use Rattle.std.proofs.Common.{◌∙◌}
 use Rattle.float64.proofs.Operations.{difference_of}
 use Rattle.float64.proofs.sub.Goals as goal
 

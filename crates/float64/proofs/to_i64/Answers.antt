@@ -1,5 +1,5 @@
 -- `to_i64` meets its contract: a NaN gives 0, in range the library truncates, and out of range the branches give the ends.
-use Rattle.std.proofs.Common.{◌^◌, ◌<◌, T, ℤ, sym, ◌∙◌, subst, w64, rules}
+use Rattle.std.proofs.Common.{◌^◌, ◌<◌, T, ℤ, sym, ◌∙◌, subst, w64}
 use borrow.Author.Rules.{sfits_of}
 use lib.Signed.{mag}
 use lib.Ieee.{of_bits, neg}

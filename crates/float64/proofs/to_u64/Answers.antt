@@ -1,5 +1,5 @@
 -- `to_u64` meets its contract: in range the library truncates, and out of range the branches give the ends.
-use Rattle.std.proofs.Common.{T, sym, ◌∙◌, subst, rules}
+use Rattle.std.proofs.Common.{T, sym, ◌∙◌, subst}
 use lib.Ieee.{of_bits, neg}
 use Rattle.float64.proofs.Conversions.{high_unsigned, low_unsigned, unsigned_of}
 use Rattle.float64.proofs.to_u64.Goals as goal

@@ -1,5 +1,5 @@
 -- `value` meets its contract: the test is the library's for a NaN's pattern.
-use Rattle.std.proofs.Common.{◌≡◌, Bool, not, T, sym, refl, ◌∙◌, subst, rules}
+use Rattle.std.proofs.Common.{◌≡◌, Bool, not, T, sym, refl, ◌∙◌, subst}
 use lib.Ieee.{binary64, nan, div, of_bits}
 use lib.Ieee.Bits.{nan_bits_above}
 use Rattle.float64.proofs.Decode.{is_not_a_number}

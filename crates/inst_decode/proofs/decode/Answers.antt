@@ -8,7 +8,6 @@ use Rattle.inst.specs.Forms.{none, eight, one, name, undefined}
 use Rattle.inst_decode.specs.Decode.{means, read_operand, from_bytes}
 use Rattle.inst.proofs.Laws.{is_form, not_form}
 use Rattle.inst_decode.proofs.Laws.{from_operand}
-use borrow.Author.Rules.{rules}
 use Rattle.inst_decode.proofs.decode.Goals as goal
 
 pub returns-then-image-at : goal.returns-then-image-at

@@ -4,7 +4,6 @@ use native.Mathlib.Omega.{arith}
 use lib.ListN.{length}
 use borrow.Author.Tests.{lt-ltb, le-ltb}
 use Rattle.inst_decode.specs.Decode.{means, read_operand}
-use borrow.Author.Rules.{rules}
 use Rattle.inst_decode.proofs.read_eight.Goals as goal
 
 pub returns-then-image-at-lt9 : goal.returns-then-image-at-lt9

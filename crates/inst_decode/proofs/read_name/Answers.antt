@@ -2,10 +2,9 @@
 use Prim.Native.Nat.{◌<◌, ◌+◌, ◌≤◌, ◌%◌, ◌^◌}
 use native.Mathlib.Omega.{arith}
 use lib.ListN.{length}
-use borrow.Author.Tests.{lt-ltb, le-ltb, not-true, not-false}
+use borrow.Author.Tests.{lt-ltb, le-ltb}
 use Rattle.inst_decode.specs.Decode.{means, read_name}
 use Rattle.inst.proofs.Laws.{slice_of}
-use borrow.Author.Rules.{rules}
 use Rattle.inst_decode.proofs.read_name.Goals as goal
 
 pub returns-then-is_negative : goal.returns-then-is_negative

@@ -2,11 +2,9 @@
 use mathlib.Core.Path.{sym, ◌∙◌}
 use mathlib.Core.List.{[]}
 use native.Mathlib.Omega.{arith}
-use borrow.Author.Tests.{not-true, not-false}
 use Rattle.inst.proofs.Laws.{is_form}
 use Rattle.inst_encode.proofs.Laws.{head_size, record_size, no_operand}
 use Rattle.inst_encode.proofs.Facts.{size_below, formed, len_is}
-use borrow.Author.Rules.{rules}
 use Rattle.inst_encode.proofs.checked_len.Goals as goal
 
 pub returns-then-not-has_form : goal.returns-then-not-has_form

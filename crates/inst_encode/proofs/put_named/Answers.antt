@@ -2,13 +2,12 @@
 use Prim.Native.Nat.{◌+◌, ◌-◌}
 use mathlib.Core.Path.{ap, ◌∙◌}
 use native.Mathlib.Omega.{arith}
-use lib.ListN.{length, take, drop, length-take, length-drop}
+use lib.ListN.{length, drop, length-take, length-drop}
 use lib.Seq.{length-sets}
 use Rattle.inst_encode.specs.Encode.{bytes_of}
 use Rattle.inst.proofs.Laws.{slice_of}
 use Rattle.inst_encode.proofs.Laws.{stored_copied}
 use Rattle.inst_encode.proofs.Facts.{length_bytes}
-use borrow.Author.Rules.{rules}
 use Rattle.inst_encode.proofs.put_named.Goals as goal
 
 pub returns : goal.returns

@@ -1,12 +1,9 @@
 -- `inst_encode::put_number` meets its contract. The invariant: storing what is left gives the whole. Assumes nothing.
 use Prim.Native.Nat.{◌≤◌, ◌+◌, ◌-◌}
 use mathlib.Core.Path.{◌≡◌}
-use native.Mathlib.Nat.{add-zero, sub-zero}
-use lib.ListN.{length, length-set}
+use lib.ListN.{length}
 use lib.Seq.{sets}
-use borrow.Author.Rules.{rules}
 use Rattle.inst_encode.specs.Encode.{bytes_of}
-use Rattle.inst_encode.proofs.Laws.{bytes_next, bytes_end, stored}
 use Rattle.inst_encode.proofs.put_number.Given as goal
 
 abbrev pub invariant-loop-i : goal.invariant-loop-i

@@ -1,6 +1,6 @@
 -- `integer::dec` meets its contract: to take 1 off is to add -1.
 -- Assumes nothing.
-use Rattle.std.proofs.Common.{◌+ℤ◌, ap, ◌∙◌, lit<, rules}
+use Rattle.std.proofs.Common.{◌+ℤ◌, ap, ◌∙◌, lit<}
 use Rattle.nan.specs.Cells.{from_i64}
 use Rattle.integer.specs.Integers.{dec}
 use Rattle.integer.proofs.Laws.{of_cell, abs_sum}

@@ -1,6 +1,6 @@
 -- `integer::imul` meets its contract: the words multiply as the values do, modulo 2 ^ 64.
 -- Assumes nothing.
-use Rattle.std.proofs.Common.{ap, ◌∙◌, rules}
+use Rattle.std.proofs.Common.{ap, ◌∙◌}
 use Rattle.nan.specs.Cells.{as_u64, from_i64, signed}
 use Rattle.integer.specs.Integers.{imul}
 use Rattle.nan.proofs.Laws.{kept_is}

@@ -1,6 +1,6 @@
 -- `integer::inc` meets its contract.
 -- Assumes nothing.
-use Rattle.std.proofs.Common.{◌+ℤ◌, ap, ◌∙◌, lit<, rules}
+use Rattle.std.proofs.Common.{◌+ℤ◌, ap, ◌∙◌, lit<}
 use Rattle.nan.specs.Cells.{from_i64}
 use Rattle.integer.specs.Integers.{inc}
 use Rattle.integer.proofs.Laws.{of_cell, abs_sum}

@@ -1,6 +1,6 @@
 -- `integer::isub` meets its contract.
 -- Assumes nothing.
-use Rattle.std.proofs.Common.{◌-ℤ◌, ap, ◌∙◌, rules}
+use Rattle.std.proofs.Common.{◌-ℤ◌, ap, ◌∙◌}
 use Rattle.nan.specs.Cells.{from_i64}
 use Rattle.integer.specs.Integers.{isub}
 use Rattle.integer.proofs.Laws.{of_cells, abs_difference}

@@ -6,7 +6,6 @@ use Rattle.inst.specs.Records.{well_formed}
 use Rattle.machine.specs.Load.{halt}
 use Rattle.tables.specs.Tables.{inst}
 use Rattle.tables.proofs.Laws.{record_at}
-use borrow.Author.Rules.{rules}
 use Rattle.known.proofs.is_well_formed_at.Goals as goal
 
 pub returns : goal.returns

@@ -1,6 +1,5 @@
 -- `known::keep` meets its contract. Assumes nothing.
 use borrow.Author.Tests.{lt-ltb, le-ltb}
-use borrow.Author.Rules.{rules}
 use Rattle.known.proofs.keep.Goals as goal
 
 pub returns-then-at-lt-KNOWN_LIMIT : goal.returns-then-at-lt-KNOWN_LIMIT

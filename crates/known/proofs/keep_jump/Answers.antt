@@ -1,7 +1,6 @@
 -- `known::keep_jump` meets its contract. Assumes nothing.
 use borrow.Author.Tests.{lt-ltb, le-ltb}
 use Rattle.known.proofs.Keeping.{is_target, no_target, no_slot}
-use borrow.Author.Rules.{rules}
 use Rattle.known.proofs.keep_jump.Goals as goal
 
 pub returns-then-t-lt65536 : goal.returns-then-t-lt65536

@@ -5,7 +5,6 @@ use native.Mathlib.Omega.{arith}
 use Rattle.inst.proofs.Facts.{typ_byte}
 use Rattle.tables.specs.Tables.{inst_of}
 use Rattle.known.proofs.Keeping.{plain_is}
-use borrow.Author.Rules.{rules}
 use Rattle.known.proofs.keep_plain.Goals as goal
 
 pub returns-then-looks_up : goal.returns-then-looks_up

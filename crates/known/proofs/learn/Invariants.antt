@@ -1,9 +1,6 @@
 -- `known::learn` meets its contract. Assumes nothing.
 use Prim.Native.Nat.{◌-◌}
-use native.Mathlib.Omega.{arith}
 use Rattle.known.specs.Keeps.{Learns}
-use Rattle.known.proofs.Keeping.{learns_none, learns_more}
-use borrow.Author.Rules.{rules}
 use Rattle.known.proofs.learn.Given as goal
 
 abbrev pub invariant-loop-i : goal.invariant-loop-i

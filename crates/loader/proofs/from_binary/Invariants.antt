@@ -1,13 +1,9 @@
 -- `loader::from_binary` meets its contract. Assumes nothing.
 use Prim.Native.Nat.{ℕ}
 use mathlib.Core.List.{List}
-use native.Mathlib.Omega.{arith}
-use borrow.Author.Rules.{rules}
-use Rattle.tables.specs.Tables.{label, labels_of}
-use Rattle.tables.proofs.Laws.{length_records}
 use Rattle.loader.specs.Loading.{load_of, LoadInsts}
-use Rattle.loader.proofs.Passing.{left, left-falls, covers}
-use Rattle.loader.proofs.LentBytes.{Underway, underway_begins, index-inside, underway_on, underway_ends}
+use Rattle.loader.proofs.Passing.{left}
+use Rattle.loader.proofs.LentBytes.{Underway}
 use Rattle.loader.proofs.from_binary.Given as goal
 
 abbrev pub invariant-loop-l : goal.invariant-loop-l

@@ -2,7 +2,6 @@
 use mathlib.Core.Path.{refl, sym, ◌∙◌}
 use native.Mathlib.Omega.{arith}
 use Rattle.lookup.proofs.Chain.{over, no_name, finds, begins, headless}
-use borrow.Author.Rules.{rules}
 use Rattle.lookup.proofs.begin.Goals as goal
 
 pub returns-then-records-gt0 : goal.returns-then-records-gt0

@@ -1,7 +1,6 @@
 -- `lookup::goes_on` meets its contract. Assumes nothing.
 use mathlib.Core.Path.{refl, sym}
 use Rattle.lookup.proofs.Chain.{over, finds, goes_to, ends, high}
-use borrow.Author.Rules.{rules}
 use Rattle.lookup.proofs.goes_on.Goals as goal
 
 pub returns-then-next-eq0 : goal.returns-then-next-eq0

@@ -2,7 +2,6 @@
 use mathlib.Core.Path.{refl, sym, ◌∙◌}
 use Rattle.lookup.proofs.Bytes.{in_image}
 use Rattle.lookup.proofs.Chain.{over, finds, some_bound, head-on, head-ill, chain_on, chain_out, chain_found, program-asked, program-found}
-use borrow.Author.Rules.{rules}
 use Rattle.lookup.proofs.judge.Goals as goal
 
 pub returns-then-is_head : goal.returns-then-is_head

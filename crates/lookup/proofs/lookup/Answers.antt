@@ -1,13 +1,10 @@
 -- `lookup::lookup` meets its contract. Assumes nothing.
 use mathlib.Core.Path.{sym}
-use mathlib.Core.List.{List, []}
+use mathlib.Core.List.{[]}
 use native.Mathlib.Omega.{arith}
-use borrow.Author.Rules.{rules}
-use Rattle.inst.specs.declared.Inst.{Inst}
 use Rattle.machine.specs.Load.{head}
-use Rattle.tables.specs.Tables.{labels_of, label}
+use Rattle.tables.specs.Tables.{label}
 use Rattle.tables.proofs.Laws.{length_records}
-use Rattle.lookup.specs.Walks.{lent_program, Walks}
 use Rattle.lookup.proofs.Bytes.{in_image}
 use Rattle.lookup.proofs.lookup.Goals as goal
 

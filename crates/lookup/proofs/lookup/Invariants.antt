@@ -1,14 +1,8 @@
 -- `lookup::lookup` meets its contract. Assumes nothing.
-use mathlib.Core.Path.{sym}
-use mathlib.Core.List.{List, []}
-use native.Mathlib.Omega.{arith}
-use borrow.Author.Rules.{rules}
+use mathlib.Core.List.{List}
 use Rattle.inst.specs.declared.Inst.{Inst}
-use Rattle.machine.specs.Load.{head}
-use Rattle.tables.specs.Tables.{labels_of, label}
-use Rattle.tables.proofs.Laws.{length_records}
+use Rattle.tables.specs.Tables.{labels_of}
 use Rattle.lookup.specs.Walks.{lent_program, Walks}
-use Rattle.lookup.proofs.Bytes.{in_image}
 use Rattle.lookup.proofs.lookup.Given as goal
 
 abbrev pub invariant-loop-w : goal.invariant-loop-w

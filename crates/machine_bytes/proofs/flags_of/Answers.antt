@@ -1,7 +1,6 @@
 -- `machine_bytes::flags_of` meets its contract. Assumes nothing.
 use mathlib.Core.Path.{refl}
 use Rattle.machine_bytes.specs.Layout.{machine_of}
-use borrow.Author.Rules.{rules}
 use Rattle.machine_bytes.proofs.flags_of.Goals as goal
 
 pub returns : goal.returns

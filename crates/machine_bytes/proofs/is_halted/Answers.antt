@@ -1,7 +1,6 @@
 -- `machine_bytes::is_halted` meets its contract. Assumes nothing.
 use mathlib.Core.Path.{refl}
 use Rattle.machine_bytes.specs.Layout.{machine_of}
-use borrow.Author.Rules.{rules}
 use Rattle.machine_bytes.proofs.is_halted.Goals as goal
 
 pub returns : goal.returns

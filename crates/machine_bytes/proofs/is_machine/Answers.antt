@@ -1,7 +1,6 @@
 -- `machine_bytes::is_machine` meets its contract. Assumes nothing.
 use borrow.Author.Tests.{eq-eqb, ne_eqb}
 use Rattle.machine_bytes.specs.Layout.{is_machine}
-use borrow.Author.Rules.{rules}
 use Rattle.machine_bytes.proofs.is_machine.Goals as goal
 
 pub returns-then-machine-ne-MACHINE_SIZE : goal.returns-then-machine-ne-MACHINE_SIZE

@@ -1,11 +1,10 @@
 -- `machine_bytes::read_arrays` meets its contract. Assumes nothing.
-use mathlib.Core.Path.{ap, sym, ◌∙◌}
+use mathlib.Core.Path.{ap, ◌∙◌}
 use native.Mathlib.Omega.{arith}
 use Rattle.inst.proofs.Laws.{slice_of}
 use Rattle.tables.specs.Tables.{numbers_in}
 use Rattle.machine_bytes.specs.Layout.{machine_of, calls_at, memory_at, height_at}
 use Rattle.machine_bytes.proofs.Fields.{part-long}
-use borrow.Author.Rules.{rules}
 use Rattle.machine_bytes.proofs.read_arrays.Goals as goal
 
 pub copy_from_slice-requires : goal.copy_from_slice-requires

@@ -1,12 +1,9 @@
 -- `machine_bytes::read_numbers` meets its contract. Assumes nothing.
-use Prim.Native.Nat.{◌-◌}
-use mathlib.Core.Path.{◌≡◌, refl, ◌∙◌}
+use mathlib.Core.Path.{refl, ◌∙◌}
 use native.Mathlib.Omega.{arith}
-use lib.ListN.{length, length-set}
-use borrow.Author.Rules.{rules}
-use Rattle.tables.specs.Tables.{numbers_in}
+use lib.ListN.{length-set}
 use Rattle.tables.proofs.Bytes.{length_numbers_in}
-use Rattle.machine_bytes.proofs.Copies.{Read, read_more, read_all}
+use Rattle.machine_bytes.proofs.Copies.{read_more, read_all}
 use Rattle.machine_bytes.proofs.read_numbers.Goals as goal
 
 pub loop-i-init : goal.loop-i-init

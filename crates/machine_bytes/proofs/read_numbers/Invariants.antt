@@ -1,12 +1,9 @@
 -- `machine_bytes::read_numbers` meets its contract. Assumes nothing.
 use Prim.Native.Nat.{◌-◌}
-use mathlib.Core.Path.{◌≡◌, refl, ◌∙◌}
-use native.Mathlib.Omega.{arith}
-use lib.ListN.{length, length-set}
-use borrow.Author.Rules.{rules}
+use mathlib.Core.Path.{◌≡◌}
+use lib.ListN.{length}
 use Rattle.tables.specs.Tables.{numbers_in}
-use Rattle.tables.proofs.Bytes.{length_numbers_in}
-use Rattle.machine_bytes.proofs.Copies.{Read, read_more, read_all}
+use Rattle.machine_bytes.proofs.Copies.{Read}
 use Rattle.machine_bytes.proofs.read_numbers.Given as goal
 
 abbrev pub invariant-loop-i : goal.invariant-loop-i

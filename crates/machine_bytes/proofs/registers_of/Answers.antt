@@ -1,6 +1,5 @@
 -- `machine_bytes::registers_of` meets its contract. Assumes nothing.
 use Rattle.machine_bytes.specs.Layout.{machine_of}
-use borrow.Author.Rules.{rules}
 use Rattle.machine_bytes.proofs.registers_of.Goals as goal
 
 pub returns : goal.returns

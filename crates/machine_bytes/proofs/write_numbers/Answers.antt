@@ -1,11 +1,8 @@
 -- `machine_bytes::write_numbers` meets its contract. Assumes nothing.
-use Prim.Native.Nat.{◌-◌}
 use mathlib.Core.Path.{refl}
 use native.Mathlib.Omega.{arith}
-use lib.ListN.{length}
-use borrow.Author.Rules.{rules}
 use Rattle.tables.specs.Tables.{bytes_of}
-use Rattle.machine_bytes.proofs.Copies.{Wrote, wrote-more, wrote_all}
+use Rattle.machine_bytes.proofs.Copies.{wrote-more, wrote_all}
 use Rattle.machine_bytes.proofs.write_numbers.Goals as goal
 
 pub loop-i-init : goal.loop-i-init

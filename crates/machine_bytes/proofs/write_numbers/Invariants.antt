@@ -1,11 +1,7 @@
 -- `machine_bytes::write_numbers` meets its contract. Assumes nothing.
 use Prim.Native.Nat.{◌-◌}
-use mathlib.Core.Path.{refl}
-use native.Mathlib.Omega.{arith}
 use lib.ListN.{length}
-use borrow.Author.Rules.{rules}
-use Rattle.tables.specs.Tables.{bytes_of}
-use Rattle.machine_bytes.proofs.Copies.{Wrote, wrote-more, wrote_all}
+use Rattle.machine_bytes.proofs.Copies.{Wrote}
 use Rattle.machine_bytes.proofs.write_numbers.Given as goal
 
 abbrev pub invariant-loop-i : goal.invariant-loop-i

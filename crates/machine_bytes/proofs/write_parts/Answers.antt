@@ -1,6 +1,5 @@
 -- `machine_bytes::write_parts` meets its contract. Assumes nothing.
 use Rattle.machine_bytes.proofs.Fields.{parts_stored}
-use borrow.Author.Rules.{rules}
 use Rattle.machine_bytes.proofs.write_parts.Goals as goal
 
 pub returns : goal.returns

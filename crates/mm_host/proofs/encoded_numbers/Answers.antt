@@ -1,7 +1,6 @@
 -- `mm_host::encoded_numbers` meets its contract. Assumes nothing.
 use Rattle.encoder.specs.Encoder.{means}
 use Rattle.mm_host.specs.Calls.{encoded_numbers}
-use borrow.Author.Rules.{rules}
 use Rattle.mm_host.proofs.encoded_numbers.Goals as goal
 
 pub returns-in-Refused : goal.returns-in-Refused

@@ -1,6 +1,5 @@
 -- `mm_host::mm_encode` meets its contract. Assumes nothing.
 use Rattle.mm_host.specs.Calls.{encode_call}
-use borrow.Author.Rules.{rules}
 use Rattle.mm_host.proofs.mm_encode.Goals as goal
 
 pub returns : goal.returns

@@ -1,6 +1,5 @@
 -- `mm_host::mm_encoded_size` meets its contract. Assumes nothing.
 use Rattle.mm_host.specs.Calls.{size_call}
-use borrow.Author.Rules.{rules}
 use Rattle.mm_host.proofs.mm_encoded_size.Goals as goal
 
 pub returns : goal.returns

@@ -2,7 +2,6 @@
 use borrow.Author.Tests.{ne_eqb}
 use Rattle.mm_host.specs.Calls.{load_call}
 use Rattle.mm_host.proofs.Answers.{load-refused, load-accepted}
-use borrow.Author.Rules.{rules}
 use Rattle.mm_host.proofs.mm_load.Goals as goal
 
 pub returns-then-machine-ne-MACHINE_SIZE : goal.returns-then-machine-ne-MACHINE_SIZE

@@ -1,10 +1,8 @@
 -- `mm_host::mm_run` meets its contract. Assumes nothing.
 use mathlib.Core.Path.{sym, ◌∙◌}
-use borrow.Author.Tests.{not-true, not-false}
 use Rattle.mm_host.specs.Calls.{run_call}
 use Rattle.run.proofs.Edges.{within}
 use Rattle.mm_host.proofs.Answers.{machine-long, read_is, run_called}
-use borrow.Author.Rules.{rules}
 use Rattle.mm_host.proofs.mm_run.Goals as goal
 
 pub returns-then-not-is_machine : goal.returns-then-not-is_machine

@@ -1,5 +1,4 @@
 -- `mm_host::ran` meets its contract. Assumes nothing.
-use borrow.Author.Rules.{rules}
 use Rattle.mm_host.proofs.ran.Goals as goal
 
 pub returns : goal.returns

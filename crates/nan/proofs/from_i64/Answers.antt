@@ -1,6 +1,6 @@
 -- `nan::from_i64` meets its contract.
 -- Assumes nothing.
-use Rattle.std.proofs.Common.{ap, ◌∙◌, rules}
+use Rattle.std.proofs.Common.{ap, ◌∙◌}
 use Rattle.nan.specs.Cells.{boxed}
 use Rattle.nan.proofs.Laws.{kept_is}
 use Rattle.nan.proofs.from_i64.Goals as goal

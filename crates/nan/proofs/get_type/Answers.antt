@@ -1,6 +1,6 @@
 -- `nan::get_type` meets its contract: a NaN's type goes by its tag.
 -- Assumes nothing.
-use Rattle.std.proofs.Common.{◌≡◌, ℕ, ◌/◌, ◌%◌, ◌^◌, true, sym, ◌∙◌, rules, ne_eqb}
+use Rattle.std.proofs.Common.{◌≡◌, ℕ, ◌/◌, ◌%◌, ◌^◌, true, sym, ◌∙◌, ne_eqb}
 use Rattle.binary64.specs.Binary64.{is_nan}
 use Rattle.nan.specs.Cells.{type_of, tagged}
 use Rattle.nan.proofs.get_type.Goals as goal

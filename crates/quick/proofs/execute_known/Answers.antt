@@ -4,7 +4,6 @@ use native.Mathlib.Omega.{arith}
 use Rattle.machine.specs.Step.{exec, op_of}
 use Rattle.quick.specs.Quick.{step_at}
 use Rattle.quick.proofs.Arms.{quickly, as_is, at, found_at}
-use borrow.Author.Rules.{rules}
 use Rattle.quick.proofs.execute_known.Goals as goal
 
 pub number_at-requires : goal.number_at-requires

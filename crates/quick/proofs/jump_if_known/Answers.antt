@@ -2,7 +2,6 @@
 use Rattle.machine.specs.Step.{jump, jump_if}
 use Rattle.machine.specs.Change.{moved}
 use Rattle.quick.proofs.Arms.{as_is}
-use borrow.Author.Rules.{rules}
 use Rattle.quick.proofs.jump_if_known.Goals as goal
 
 pub returns-then-is_set : goal.returns-then-is_set

@@ -1,11 +1,7 @@
 -- `quick::run_known` meets its contract. Assumes nothing.
-use Prim.Native.Nat.{◌-◌}
-use mathlib.Core.Path.{refl}
 use mathlib.Core.Bool.{false}
-use borrow.Author.Rules.{rules}
 use Rattle.step_core.specs.Parts.{of_parts}
 use Rattle.quick.specs.Courses.{Leads}
-use Rattle.quick.proofs.Steps.{begun, success-on, stopped_at}
 use Rattle.quick.proofs.run_known.Given as goal
 
 abbrev pub invariant-loop-left : goal.invariant-loop-left

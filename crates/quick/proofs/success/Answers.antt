@@ -1,6 +1,5 @@
 -- `quick::success` meets its contract. Assumes nothing.
 use Rattle.quick.specs.Quick.{success_of}
-use borrow.Author.Rules.{rules}
 use Rattle.quick.proofs.success.Goals as goal
 
 pub returns-in-Next : goal.returns-in-Next

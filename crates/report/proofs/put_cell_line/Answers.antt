@@ -1,13 +1,9 @@
 -- `report::put_cell_line` meets its contract. Assumes nothing.
-use Prim.Native.Nat.{◌≤◌}
-use mathlib.Core.Path.{◌≡◌, ap, ◌∙◌}
+use mathlib.Core.Path.{ap}
 use native.Mathlib.Omega.{arith}
-use lib.Dec.{lit<, lit≤}
-use lib.ListN.{length, take, length-append}
-use borrow.Author.Rules.{rules}
-use Rattle.io.specs.Digits.{last_digits}
+use lib.ListN.{length, length-append}
 use Rattle.report.specs.Text.{cell_line}
-use Rattle.report.proofs.Laws.{fewest_most, put_both, hex_is}
+use Rattle.report.proofs.Laws.{put_both, hex_is}
 use Rattle.report.proofs.put_cell_line.Goals as goal
 
 pub put-next-requires : goal.put-next-requires

@@ -1,10 +1,10 @@
 -- `report::put_cell_lines` meets its contract. The invariant: storing the lines that are left gives the whole. Assumes nothing.
-use Prim.Native.Nat.{ℕ, ◌≤◌, ◌<◌, ◌+◌, ◌*◌, ◌-◌}
+use Prim.Native.Nat.{ℕ, ◌≤◌, ◌<◌, ◌+◌, ◌*◌}
 use mathlib.Core.Path.{◌≡◌, refl, ap}
 use native.Mathlib.Omega.{arith}
 use mathlib.Core.List.{List, ◌++◌}
 use lib.ListN.{length, take, drop, length-append}
-use lib.Seq.{sets, length-take-le, get_or-take}
+use lib.Seq.{length-take-le, get_or-take}
 use borrow.Author.Rules.{rules}
 use Rattle.tables.specs.Tables.{numbers_in, number_at}
 use Rattle.tables.proofs.Bytes.{length_numbers_in}
@@ -17,7 +17,6 @@ front_long cells n h = let l = length_numbers_in cells in length-take-le n (numb
 
 cells-next : (cells : List ℕ) (n i : ℕ) → n * 8 ≤ length cells → i < n → (x : ℕ) → x ≡ number_at cells i
     → cell_lines (drop i (take n (numbers_in cells))) ≡ cell_line x ++ cell_lines (drop (i + 1) (take n (numbers_in cells)))
-
 cells-next cells n i h l x e =
     let k : i < length (take n (numbers_in cells)) = rw (front_long cells n h) l in
     rw (e, ← (get_or-take n (numbers_in cells) i 0 l)) (lines_next (take n (numbers_in cells)) i k)

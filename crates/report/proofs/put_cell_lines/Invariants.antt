@@ -1,15 +1,10 @@
 -- `report::put_cell_lines` meets its contract. The invariant: storing the lines that are left gives the whole. Assumes nothing.
-use Prim.Native.Nat.{ℕ, ◌≤◌, ◌<◌, ◌+◌, ◌*◌, ◌-◌}
-use mathlib.Core.Path.{◌≡◌, refl, ap}
-use native.Mathlib.Omega.{arith}
-use mathlib.Core.List.{List, ◌++◌}
-use lib.ListN.{length, take, drop, length-append}
-use lib.Seq.{sets, length-take-le, get_or-take}
-use borrow.Author.Rules.{rules}
-use Rattle.tables.specs.Tables.{numbers_in, number_at}
-use Rattle.tables.proofs.Bytes.{length_numbers_in}
-use Rattle.report.specs.Text.{cell_line, cell_lines}
-use Rattle.report.proofs.Laws.{lines_next, lines_end, put_next}
+use Prim.Native.Nat.{◌≤◌, ◌+◌, ◌-◌}
+use mathlib.Core.Path.{◌≡◌}
+use lib.ListN.{length, take, drop}
+use lib.Seq.{sets}
+use Rattle.tables.specs.Tables.{numbers_in}
+use Rattle.report.specs.Text.{cell_lines}
 use Rattle.report.proofs.put_cell_lines.Given as goal
 
 abbrev pub invariant-loop-i : goal.invariant-loop-i

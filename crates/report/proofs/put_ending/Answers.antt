@@ -1,5 +1,4 @@
 -- `report::put_ending` meets its contract. Assumes nothing.
-use borrow.Author.Rules.{rules}
 use Rattle.report.specs.Text.{ending_text}
 use Rattle.report.proofs.put_ending.Goals as goal
 

@@ -1,11 +1,8 @@
 -- `report::put_number` meets its contract. Assumes nothing.
-use mathlib.Core.Path.{◌≡◌, ap, ◌∙◌}
+use mathlib.Core.Path.{ap}
 use native.Mathlib.Omega.{arith}
-use lib.Dec.{lit<, lit≤}
-use lib.ListN.{length, take, length-append}
-use borrow.Author.Rules.{rules}
-use Rattle.report.specs.Text.{decimal}
-use Rattle.report.proofs.Laws.{fewest_digits, fewest_most, put_both, decimal_is}
+use lib.ListN.{length, length-append}
+use Rattle.report.proofs.Laws.{put_both, decimal_is}
 use Rattle.report.proofs.put_number.Goals as goal
 
 pub put-next-requires : goal.put-next-requires

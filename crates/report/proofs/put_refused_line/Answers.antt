@@ -1,7 +1,6 @@
 -- `report::put_refused_line` meets its contract. Assumes nothing.
 use native.Mathlib.Omega.{arith}
 use lib.ListN.{length-append}
-use borrow.Author.Rules.{rules}
 use Rattle.report.specs.Text.{refused_line}
 use Rattle.report.proofs.Laws.{put_both}
 use Rattle.report.proofs.put_refused_line.Goals as goal

@@ -1,6 +1,5 @@
 -- `run::begin` meets its contract. Assumes nothing.
 use Rattle.run.proofs.Edges.{begins-halted, begins_spent, begins-ill, begins-on}
-use borrow.Author.Rules.{rules}
 use Rattle.run.proofs.begin.Goals as goal
 
 pub returns-then-halted : goal.returns-then-halted

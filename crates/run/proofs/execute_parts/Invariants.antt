@@ -1,13 +1,10 @@
 -- `run::execute_parts` meets its contract. Assumes nothing.
 use Prim.Native.Nat.{◌<◌, ◌^◌}
 use lib.ListN.{length}
-use borrow.Author.Rules.{rules}
 use Rattle.machine.specs.Run.{Course}
-use Rattle.tables.specs.Tables.{labels_of, insts_of, program}
+use Rattle.tables.specs.Tables.{program}
 use Rattle.step.specs.Steps.{arrays}
 use Rattle.run.specs.Runs.{Stands, weight}
-use Rattle.run.proofs.Edges.{reports, answers}
-use Rattle.run.proofs.Running.{ready}
 use Rattle.run.proofs.execute_parts.Given as goal
 
 abbrev pub invariant-loop-progress : goal.invariant-loop-progress

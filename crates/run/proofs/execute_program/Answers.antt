@@ -1,6 +1,5 @@
 -- `run::execute_program` meets its contract. Assumes nothing.
 use Rattle.run.proofs.Edges.{within}
-use borrow.Author.Rules.{rules}
 use Rattle.run.proofs.execute_program.Goals as goal
 
 pub pack-requires : goal.pack-requires

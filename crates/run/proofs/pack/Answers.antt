@@ -1,5 +1,4 @@
 -- `run::pack` meets its contract. Assumes nothing.
-use borrow.Author.Rules.{rules}
 use Rattle.run.proofs.pack.Goals as goal
 
 pub returns : goal.returns

@@ -1,16 +1,14 @@
 -- `run::steps` meets its contract. Assumes nothing.
 use native.Mathlib.Omega.{arith}
 use mathlib.Core.Path.{◌∙◌}
-use borrow.Author.Rules.{rules}
-use Rattle.step.specs.Steps.{arrays}
-use Rattle.run.proofs.Loop.{Loops, loop_starts, loop_over, loop_on, loop_stops, go_small, end_long, advances}
+use Rattle.run.proofs.Loop.{loop_starts, loop_over, loop_on, loop_stops, go_small, end_long, advances}
 use Rattle.run.proofs.steps.Goals as goal
 
 pub loop-left-init : goal.loop-left-init
 loop-left-init c = loop_starts _ _ _ _ _ c.requires.small c.requires.filled c.requires.sized c.requires.listed
 
 pub step-tried-requires : goal.step-tried-requires
-step-tried-requires c = record { forms_value = c.form_table-forms.ensures; inside = (c.loop-left.invariant.small, c.requires.inside, c.loop-left.invariant.sized, c.loop-left.invariant.listed); }
+step-tried-requires c = record { forms_value = c.form_table-forms.ensures; inside = (c.loop-left.invariant.small, c.requires.inside, c.loop-left.invariant.sized, c.loop-left.invariant.listed) }
 
 pub follow-turn-requires : goal.follow-turn-requires
 follow-turn-requires c = (c.loop-left-test.true, c.loop-left.invariant.filled, c.step-tried.ensures.small)

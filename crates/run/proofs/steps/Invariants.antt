@@ -1,9 +1,6 @@
 -- `run::steps` meets its contract. Assumes nothing.
-use native.Mathlib.Omega.{arith}
-use mathlib.Core.Path.{◌∙◌}
-use borrow.Author.Rules.{rules}
 use Rattle.step.specs.Steps.{arrays}
-use Rattle.run.proofs.Loop.{Loops, loop_starts, loop_over, loop_on, loop_stops, go_small, end_long, advances}
+use Rattle.run.proofs.Loop.{Loops}
 use Rattle.run.proofs.steps.Given as goal
 
 abbrev pub invariant-loop-left : goal.invariant-loop-left

@@ -1,7 +1,7 @@
 -- `step::execute_instruction` meets its contract. Assumes nothing.
 use mathlib.Core.Path.{◌≡◌, refl}
 use mathlib.Core.Bool.{false}
-use mathlib.Core.Logic.{inl, inr, ⊎_elim}
+use mathlib.Core.Logic.{inl, inr}
 use native.Mathlib.Omega.{arith}
 use Rattle.machine.specs.Step.{exec, op_of}
 use Rattle.machine.specs.Change as change
@@ -83,7 +83,7 @@ returns-in_default c found start len =
     let alone : is_named_alone op ≡ false = simp (ne_eqb op 1 (λ e. omega arith), ne_eqb op 2 (λ e. omega arith), ne_eqb op 3 (λ e. omega arith), ne_eqb op 4 (λ e. omega arith), ne_eqb op 9 (λ e. omega arith), ne_eqb op 10 (λ e. omega arith), ne_eqb op 11 (λ e. omega arith), ne_eqb op 22 (λ e. omega arith), ne_eqb op 27 (λ e. c.in_default-1.rest.0.0.0.0.1 (inl e)), ne_eqb op 46 (λ e. c.in_default-1.rest.0.0.0.0.1 (inr e)), ne_eqb op 29 (λ e. omega arith), ne_eqb op 38 (λ e. c.in_default-1.rest.0.0.1 (inl e)), ne_eqb op 40 (λ e. c.in_default-1.rest.0.0.1 (inr (inl e))), ne_eqb op 42 (λ e. c.in_default-1.rest.0.0.1 (inr (inr (inl e)))), ne_eqb op 44 (λ e. c.in_default-1.rest.0.0.1 (inr (inr (inr e)))), ne_eqb op 39 (λ e. c.in_default-1.rest.0.1 (inl e)), ne_eqb op 41 (λ e. c.in_default-1.rest.0.1 (inr (inl e))), ne_eqb op 43 (λ e. c.in_default-1.rest.0.1 (inr (inr (inl e)))), ne_eqb op 45 (λ e. c.in_default-1.rest.0.1 (inr (inr (inr e))))) in
     let in_range : is_named_in_range op ≡ false =
     elim c.in_default.branch [
-      in_default-via-then-op-lt1 w ↦ simp (below 5 8 op (omega arith), below 23 26 op (omega arith), below 31 36 op (omega arith))
+      | in_default-via-then-op-lt1 w ↦ simp (below 5 8 op (omega arith), below 23 26 op (omega arith), below 31 36 op (omega arith))
       | in_default-via-else-op-lt1+else-op-lt9+then-op-lt22 w ↦ simp (above 5 8 op (omega arith), below 23 26 op (omega arith), below 31 36 op (omega arith))
       | in_default-via-else-op-lt1+else-op-lt9+else-op-lt22+else-op-lt27+then-op-lt31 w ↦ simp (above 5 8 op (omega arith), above 23 26 op (omega arith), below 31 36 op (omega arith))
       | in_default-via-else-op-lt1+else-op-lt9+else-op-lt22+else-op-lt27+else-op-lt31+else-op-lt37 w ↦ simp (above 5 8 op (omega arith), above 23 26 op (omega arith), above 31 36 op (omega arith))

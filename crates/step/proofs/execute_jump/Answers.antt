@@ -3,7 +3,6 @@ use mathlib.Core.Path.{refl, ◌∙◌}
 use Rattle.machine.specs.Step.{exec, op_of}
 use Rattle.step.proofs.Dispatch.{in_jumps, jcc_at}
 use Rattle.step.proofs.Whole.{acted, as_is}
-use borrow.Author.Rules.{rules}
 use Rattle.step.proofs.execute_jump.Goals as goal
 
 pub returns-then-op-eq-CALL : goal.returns-then-op-eq-CALL

@@ -1,7 +1,6 @@
 -- `step::step` meets its contract. Assumes nothing.
 use lib.ListN.{length}
 use Prim.Native.Nat.{ℕ, ◌+◌, ◌*◌, ◌<◌}
-use borrow.Author.Tests.{not-true, not-false}
 use native.Mathlib.Omega.{arith}
 use mathlib.Core.Path.{refl, sym, ◌∙◌}
 use mathlib.Core.List.{[]}
@@ -34,7 +33,7 @@ pub keep_jump-requires : goal.keep_jump-requires
 keep_jump-requires c = omega (arith, c.number_at-op.ensures, typ_byte _ (inst_of c.args.insts.now c.args.regs.ip) (sym c.is_well_formed_at.ensures ∙ c.if-not-is_well_formed_at.false))
 
 pub learn-requires : goal.learn-requires
-learn-requires c = record { forms_value = c.requires.forms_value; count_in_bounds = (c.requires.inside.1, c.requires.inside.2.keys-long); }
+learn-requires c = record { forms_value = c.requires.forms_value; count_in_bounds = (c.requires.inside.1, c.requires.inside.2.keys-long) }
 
 pub execute_instruction-requires : goal.execute_instruction-requires
 execute_instruction-requires c = ((c.requires.inside.0.0, c.requires.inside.0.1, search rules), sym c.looks_up.ensures ∙ c.if-looks_up.false)

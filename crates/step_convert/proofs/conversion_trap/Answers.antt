@@ -2,7 +2,6 @@
 use mathlib.Core.Path.{sym, ◌∙◌}
 use Rattle.machine.specs.Step.{number_of}
 use Rattle.step_convert.proofs.Laws.{no_ptr, no_unknown}
-use borrow.Author.Rules.{rules}
 use Rattle.step_convert.proofs.conversion_trap.Goals as goal
 
 pub returns-in-F64 : goal.returns-in-F64

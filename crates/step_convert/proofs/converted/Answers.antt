@@ -4,7 +4,6 @@ use Rattle.nan.specs.Cells as cells
 use Rattle.nan.proofs.Laws.{kept_is}
 use Rattle.machine.specs.Step.{rule_of}
 use borrow.Author.Tests.{ne_eqb}
-use borrow.Author.Rules.{rules}
 use Rattle.step_convert.proofs.converted.Goals as goal
 
 pub returns-in-31 : goal.returns-in-31

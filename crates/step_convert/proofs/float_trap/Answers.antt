@@ -5,7 +5,6 @@ use Rattle.step_convert.proofs.Laws.{late_float}
 use lib.Dec.{eqb}
 use mathlib.Core.Path.{sym}
 use borrow.Author.Tests.{ne_eqb}
-use borrow.Author.Rules.{rules}
 use Rattle.step_convert.proofs.float_trap.Goals as goal
 
 pub returns-in-31 : goal.returns-in-31

@@ -1,7 +1,6 @@
 -- `step_convert::i2f` meets its contract. Assumes nothing.
 use native.Mathlib.Omega.{arith}
 use Rattle.nan.proofs.Laws.{abs_value}
-use borrow.Author.Rules.{rules}
 use Rattle.step_convert.proofs.i2f.Goals as goal
 
 pub returns : goal.returns

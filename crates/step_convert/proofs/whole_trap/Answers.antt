@@ -5,7 +5,6 @@ use Rattle.step_convert.specs.FirstBytes.{conversion_trap}
 use Rattle.step_convert.proofs.Laws.{whole-known, whole_float, is_minus, not_minus, late_whole}
 use mathlib.Core.Path.{sym}
 use borrow.Author.Tests.{ne_eqb}
-use borrow.Author.Rules.{rules}
 use Rattle.step_convert.proofs.whole_trap.Goals as goal
 
 pub returns-in-31 : goal.returns-in-31

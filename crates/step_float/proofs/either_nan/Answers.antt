@@ -1,5 +1,4 @@
 -- `step_float::either_nan` meets its contract. Assumes nothing.
-use borrow.Author.Rules.{rules}
 use Rattle.step_float.proofs.either_nan.Goals as goal
 
 pub returns-then-is_nan : goal.returns-then-is_nan

@@ -3,7 +3,6 @@ use mathlib.Core.Path.{sym, ◌∙◌}
 use Rattle.machine.specs.Step.{of_floats}
 use Rattle.step_float.proofs.Laws.{nan_either}
 use borrow.Author.Tests.{ne_eqb}
-use borrow.Author.Rules.{rules}
 use Rattle.step_float.proofs.of_floats.Goals as goal
 
 pub returns-then-either_nan : goal.returns-then-either_nan

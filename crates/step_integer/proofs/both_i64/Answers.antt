@@ -1,5 +1,4 @@
 -- `step_integer::both_i64` meets its contract. Assumes nothing.
-use borrow.Author.Rules.{rules}
 use Rattle.step_integer.proofs.both_i64.Goals as goal
 
 pub returns-then-is_i64 : goal.returns-then-is_i64

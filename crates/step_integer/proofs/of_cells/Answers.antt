@@ -2,7 +2,6 @@
 use Rattle.machine.specs.Step.{of_cells}
 use Rattle.step_integer.proofs.Laws.{divisor}
 use borrow.Author.Tests.{ne_eqb}
-use borrow.Author.Rules.{rules}
 use Rattle.step_integer.proofs.of_cells.Goals as goal
 
 pub idiv-requires : goal.idiv-requires

@@ -4,7 +4,6 @@ use mathlib.Core.Bool.{Bool, not}
 use lib.Dec.{eqb}
 use Rattle.nan.specs.declared.CellType.{CellType}
 use Rattle.machine.specs.Step.{number_of}
-use borrow.Author.Rules.{rules}
 use Rattle.step_integer.proofs.type_known.Goals as goal
 
 abbrev told : CellType → Bool

@@ -1,6 +1,5 @@
 -- `step_integer::type_trap` meets its contract. Assumes nothing.
 use Rattle.step_integer.specs.FirstBytes.{type_trap}
-use borrow.Author.Rules.{rules}
 use Rattle.step_integer.proofs.type_trap.Goals as goal
 
 pub returns-then-type_known-2 : goal.returns-then-type_known-2

@@ -2,7 +2,6 @@
 use mathlib.Core.Path.{sym}
 use Rattle.tables.specs.Tables.{inst}
 use Rattle.tables.proofs.Laws.{record_at}
-use borrow.Author.Rules.{rules}
 use Rattle.tables.proofs.inst_at.Goals as goal
 
 pub returns : goal.returns

@@ -2,7 +2,6 @@
 use mathlib.Core.Path.{sym}
 use Rattle.tables.specs.Tables.{label}
 use Rattle.tables.proofs.Laws.{record_at}
-use borrow.Author.Rules.{rules}
 use Rattle.tables.proofs.label_at.Goals as goal
 
 pub returns : goal.returns

@@ -1,7 +1,6 @@
 -- `tables::number_at` meets its contract. Assumes nothing.
 use mathlib.Core.Path.{◌∙◌, sym}
 use Rattle.tables.proofs.Bytes.{number_word}
-use borrow.Author.Rules.{rules}
 use Rattle.tables.proofs.number_at.Goals as goal
 
 pub returns : goal.returns

@@ -1,6 +1,5 @@
 -- `tables::put` meets its contract. Assumes nothing.
 use Rattle.tables.proofs.Bytes.{four_stored}
-use borrow.Author.Rules.{rules}
 use Rattle.tables.proofs.put.Goals as goal
 
 pub returns : goal.returns

@@ -1,5 +1,4 @@
 -- `transcript::is_full` meets its contract. Assumes nothing.
-use borrow.Author.Rules.{rules}
 use Rattle.transcript.specs.Transcript.{is_full}
 use Rattle.transcript.proofs.is_full.Goals as goal
 

@@ -3,13 +3,12 @@ use mathlib.Core.Path.{◌≡◌, refl, sym, ◌∙◌}
 use mathlib.Core.Bool.{true, false}
 use native.Mathlib.Omega.{arith}
 use lib.ListN.{length}
-use borrow.Author.Rules.{rules}
 use Rattle.run.specs.Runs.{answer}
 use Rattle.run.proofs.Cells.{cells, in_cells}
 use Rattle.transcript.specs.Transcript.{is_full}
 use Rattle.tables.specs.Tables.{numbers_in, program}
 use Rattle.tables.proofs.Bytes.{length_numbers_in}
-use Rattle.transcript.proofs.Printing.{Printing, begins, weight, Turned, turned, room_at_end, ends, sixty_four, same_bytes}
+use Rattle.transcript.proofs.Printing.{begins, Turned, turned, room_at_end, ends, sixty_four, same_bytes}
 use Rattle.transcript.proofs.print_runs.Goals.{After-execute_program-ran}
 use Rattle.transcript.proofs.print_runs.Goals as goal
 
@@ -32,7 +31,7 @@ slice_bounds-put_cell_lines-end-in-loop-ending c = sym (long (goal.at.slice_boun
 pub put_cell_lines-at-requires : goal.put_cell_lines-at-requires
 put_cell_lines-at-requires c =
     let r = ran (goal.at.put_cell_lines-at-requires c).After-execute_program-ran in
-    record { n_in_bounds = omega (arith, r.fits, length_numbers_in c.execute_program-ran.new.dumps); cells_in_bounds = r.room c.put_cell_lines-arg-1.given.0.1; }
+    record { n_in_bounds = omega (arith, r.fits, length_numbers_in c.execute_program-ran.new.dumps); cells_in_bounds = r.room c.put_cell_lines-arg-1.given.0.1 }
 
 pub overflow_add-steps : goal.overflow_add-steps
 overflow_add-steps c =

@@ -1,6 +1,5 @@
 -- `transcript::run_image` meets its contract. Assumes nothing.
 use native.Mathlib.Omega.{arith}
-use borrow.Author.Rules.{rules}
 use Rattle.report.proofs.Laws.{refused_line_short}
 use Rattle.transcript.specs.Transcript.{printed}
 use Rattle.transcript.proofs.Loads.{refused_put, accepted_put}

@@ -2,7 +2,6 @@
 use native.Mathlib.Omega.{arith}
 use lib.ListN.{length-set}
 use Rattle.word.proofs.Laws.{eight_stored}
-use borrow.Author.Rules.{rules}
 use Rattle.word.proofs.put_word.Goals as goal
 
 pub bounds-bytes-at-2 : goal.bounds-bytes-at-2

@@ -1,7 +1,6 @@
 -- `word::word_at` meets its contract. Assumes nothing.
 use mathlib.Core.Path.{◌∙◌}
 use Rattle.word.proofs.Laws.{eight_from}
-use borrow.Author.Rules.{rules}
 use Rattle.word.proofs.word_at.Goals as goal
 
 pub returns : goal.returns

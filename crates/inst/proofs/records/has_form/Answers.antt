@@ -2,7 +2,6 @@
 use borrow.Author.Tests.{eq-eqb, ne_eqb, le-leb, lt-leb}
 use Rattle.inst.specs.Records.{fits}
 use Rattle.inst.proofs.Laws.{other_form}
-use borrow.Author.Rules.{rules}
 use Rattle.inst.proofs.records.has_form.Goals as goal
 
 pub returns-then-val-eq0 : goal.returns-then-val-eq0

@@ -2,7 +2,6 @@
 use mathlib.Core.Path.{◌∙◌, ap, sym}
 use Rattle.inst.specs.Records.{fits, well_formed}
 use Rattle.inst.proofs.Laws.{form_back}
-use borrow.Author.Rules.{rules}
 use Rattle.inst.proofs.records.is_well_formed.Goals as goal
 
 pub returns : goal.returns

@@ -5,7 +5,6 @@ use lib.ListN.{length}
 use borrow.Author.Tests.{le-leb, lt-leb}
 use Rattle.inst.specs.Records.{name_in}
 use Rattle.inst.proofs.Laws.{slice_of}
-use borrow.Author.Rules.{rules}
 use Rattle.inst.proofs.records.name_in.Goals as goal
 
 pub returns-then-size-start : goal.returns-then-size-start

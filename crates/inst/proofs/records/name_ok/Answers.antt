@@ -1,11 +1,10 @@
 -- `inst::name_ok` meets its contract. The invariant: what is left decides. Assumes nothing.
-use Prim.Native.Nat.{◌≤◌, ◌<◌, ◌-◌}
+use Prim.Native.Nat.{◌≤◌, ◌<◌}
 use native.Mathlib.Omega.{arith}
-use mathlib.Core.Path.{◌≡◌, refl, ◌∙◌, sym}
-use lib.ListN.{length, get_or, drop}
+use mathlib.Core.Path.{refl, ◌∙◌, sym}
+use lib.ListN.{get_or}
 use borrow.Author.Rules.{rules}
 use borrow.Author.Tests.{le-ltb, lt-ltb}
-use Rattle.inst.specs.Records.{name_ok}
 use Rattle.inst.proofs.Laws.{name-next, name_end}
 use Rattle.inst.proofs.records.name_ok.Goals as goal
 

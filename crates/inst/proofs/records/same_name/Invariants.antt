@@ -1,12 +1,8 @@
 -- `inst::records::same_name` meets its contract. Assumes nothing.
 use Prim.Native.Nat.{◌≤◌, ◌-◌}
-use native.Mathlib.Omega.{arith}
-use mathlib.Core.Path.{◌≡◌, refl, ◌∙◌, sym}
+use mathlib.Core.Path.{◌≡◌}
 use lib.ListN.{length, drop}
-use borrow.Author.Rules.{rules}
-use borrow.Author.Tests.{eq-eqb, ne_eqb}
 use Rattle.inst.specs.Records.{same}
-use Rattle.inst.proofs.Names.{same_next, same_end, same-long}
 use Rattle.inst.proofs.records.same_name.Given as goal
 
 abbrev pub invariant-loop-i : goal.invariant-loop-i

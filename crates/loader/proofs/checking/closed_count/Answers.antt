@@ -1,5 +1,4 @@
 -- `loader::checking::closed_count` meets its contract. Assumes nothing.
-use borrow.Author.Rules.{rules}
 use Rattle.loader.proofs.checking.closed_count.Goals as goal
 
 pub returns-else-halt : goal.returns-else-halt

@@ -2,7 +2,6 @@
 use mathlib.Core.Path.{ap, ◌∙◌}
 use Rattle.loader.specs.Loading.{checked_of}
 use Rattle.loader.proofs.Ends.{was_false, was_true, no_entry_lem, too_many, has_native, accepted_there}
-use borrow.Author.Rules.{rules}
 use Rattle.loader.proofs.checking.finish.Goals as goal
 
 pub returns-then-not-c : goal.returns-then-not-c

@@ -1,6 +1,5 @@
 -- `loader::filling::close` meets its contract. Assumes nothing.
 use borrow.Author.Tests.{lt-ltb, le-ltb}
-use borrow.Author.Rules.{rules}
 use Rattle.loader.proofs.filling.close.Goals as goal
 
 pub returns-then-index-count : goal.returns-then-index-count

@@ -1,16 +1,14 @@
 -- `loader::filling::fill` meets its contract. Assumes nothing.
-use Prim.Native.Nat.{◌*◌, ◌-◌}
-use mathlib.Core.Path.{◌≡◌, refl, sym, ap, ◌∙◌}
+use Prim.Native.Nat.{◌*◌}
+use mathlib.Core.Path.{refl, sym, ap, ◌∙◌}
 use native.Mathlib.Omega.{arith}
-use lib.ListN.{length}
-use borrow.Author.Rules.{rules}
 use Rattle.inst_decode.specs.Decode.{means}
 use Rattle.inst_decode.proofs.Facts.{read_in_lem}
 use Rattle.tables.specs.Tables.{bytes_of, inst_numbers}
 use Rattle.loader.proofs.Instructions.{refused_is}
 use Rattle.machine.proofs.Loads.{parsed}
 use Rattle.loader.proofs.Stores.{put_long}
-use Rattle.loader.proofs.Fillings.{Filling, filling_begins, filling_next, filling_room, filling_never, filling_ends}
+use Rattle.loader.proofs.Fillings.{filling_begins, filling_next, filling_room, filling_never, filling_ends}
 use Rattle.loader.proofs.filling.fill.Goals as goal
 
 pub loop-at-init : goal.loop-at-init

@@ -5,7 +5,6 @@ use Rattle.tables.specs.Tables.{inst, insts_of}
 use Rattle.tables.proofs.Laws.{length_records}
 use Rattle.machine.proofs.Loads.{enough}
 use Rattle.loader.proofs.Loads.{few_insts, few_labels, refused_with, refused_there, accepted-load}
-use borrow.Author.Rules.{rules}
 use Rattle.loader.proofs.filling.load_insts.Goals as goal
 
 pub returns-then-insts-lt-INST_LIMIT : goal.returns-then-insts-lt-INST_LIMIT
@@ -19,7 +18,7 @@ returns-in_default c ls e =
     rw (enough c.args.image.now (insts_of c.args.insts.now) ls (rw (length_records inst) c.if-insts-lt-INST_LIMIT.false) (rw e c.if-labels-lt-LABEL_RECORDS.false)) (refused_there _ _ _ _ c.check-checked.ensures (sym c.in_default.is))
 
 pub fill-requires : goal.fill-requires
-fill-requires c = record { accepts = accepted-load _ _ _ _ c.check-checked.ensures (sym c.in-Accepted.is); inst_limit_in_bounds = omega (arith, c.if-insts-lt-INST_LIMIT.false); }
+fill-requires c = record { accepts = accepted-load _ _ _ _ c.check-checked.ensures (sym c.in-Accepted.is); inst_limit_in_bounds = omega (arith, c.if-insts-lt-INST_LIMIT.false) }
 
 pub returns : goal.returns
 returns c ls e =

@@ -1,6 +1,5 @@
 -- `loader::labels::head_link` meets its contract. Assumes nothing.
 use Rattle.loader.specs.Linking.{head_by}
-use borrow.Author.Rules.{rules}
 use Rattle.loader.proofs.labels.head_link.Goals as goal
 
 pub returns-in_default : goal.returns-in_default

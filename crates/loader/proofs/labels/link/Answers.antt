@@ -1,6 +1,5 @@
 -- `loader::labels::link` meets its contract. Assumes nothing.
 use Rattle.loader.specs.Linking.{linked_at}
-use borrow.Author.Rules.{rules}
 use Rattle.loader.proofs.labels.link.Goals as goal
 
 pub returns : goal.returns

@@ -1,11 +1,8 @@
 -- `loader::labels::next_link` meets its contract. Assumes nothing.
 use Prim.Native.Nat.{◌-◌, ◌≤◌}
-use mathlib.Core.Path.{◌≡◌, refl, sym, ap, ◌∙◌}
-use native.Mathlib.Omega.{arith}
-use Rattle.machine.specs.Load.{halt}
-use Rattle.loader.specs.Linking.{label_link, next_link}
-use Rattle.loader.proofs.Seeks.{from, seek_ends, seek_label, seek_next}
-use borrow.Author.Rules.{rules}
+use mathlib.Core.Path.{◌≡◌}
+use Rattle.loader.specs.Linking.{next_link}
+use Rattle.loader.proofs.Seeks.{from}
 use Rattle.loader.proofs.labels.next_link.Given as goal
 
 abbrev pub invariant-loop-n : goal.invariant-loop-n

@@ -1,5 +1,4 @@
 -- `loader::reading::counted` meets its contract. Assumes nothing.
-use borrow.Author.Rules.{rules}
 use Rattle.loader.proofs.reading.counted.Goals as goal
 
 pub returns : goal.returns

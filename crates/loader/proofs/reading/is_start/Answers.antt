@@ -1,6 +1,5 @@
 -- `loader::reading::is_start` meets its contract. Assumes nothing.
 use Rattle.inst.proofs.Laws.{slice_of}
-use borrow.Author.Rules.{rules}
 use Rattle.loader.proofs.reading.is_start.Goals as goal
 
 pub returns : goal.returns

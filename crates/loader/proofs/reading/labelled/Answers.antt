@@ -1,5 +1,4 @@
 -- `loader::reading::labelled` meets its contract. Assumes nothing.
-use borrow.Author.Rules.{rules}
 use Rattle.loader.proofs.reading.labelled.Goals as goal
 
 pub returns : goal.returns

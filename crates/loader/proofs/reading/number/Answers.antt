@@ -1,7 +1,6 @@
 -- `loader::reading::number` meets its contract. Assumes nothing.
 use Rattle.inst_decode.specs.Decode.{means}
 use Rattle.loader.specs.Reading.{number_in}
-use borrow.Author.Rules.{rules}
 use Rattle.loader.proofs.reading.number.Goals as goal
 
 pub returns-in-Undefined : goal.returns-in-Undefined

@@ -1,6 +1,5 @@
 -- `lookup::names::matches` meets its contract. Assumes nothing.
 use Rattle.inst.proofs.Laws.{slice_of}
-use borrow.Author.Rules.{rules}
 use Rattle.lookup.proofs.names.matches.Goals as goal
 
 pub returns : goal.returns

@@ -1,7 +1,6 @@
 -- `run::follows::follow` meets its contract. Assumes nothing.
 use mathlib.Core.Path.{refl}
 use Rattle.run.proofs.Following.{for_tried}
-use borrow.Author.Rules.{rules}
 use Rattle.run.proofs.follows.follow.Goals as goal
 
 pub follow_executed-requires : goal.follow_executed-requires

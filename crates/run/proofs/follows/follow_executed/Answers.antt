@@ -1,6 +1,5 @@
 -- `run::follows::follow_executed` meets its contract. Assumes nothing.
 use Rattle.run.proofs.Following.{for_answer, after_next, after_compared, after-dump, after_full, after-halt, after-trap, after-ill, lent-cell, no_slot, a_slot}
-use borrow.Author.Rules.{rules}
 use Rattle.run.proofs.follows.follow_executed.Goals as goal
 
 pub returns-in-Next : goal.returns-in-Next

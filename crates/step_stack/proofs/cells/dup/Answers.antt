@@ -2,7 +2,6 @@
 use Rattle.machine.specs.Step.{dup, ◌must◌else◌then◌}
 use Rattle.step_core.proofs.Answers.{same, trapped}
 use borrow.Author.Tests.{lt-ltb, le-ltb}
-use borrow.Author.Rules.{rules}
 use Rattle.step_stack.proofs.cells.dup.Goals as goal
 
 pub returns-then-depth-height : goal.returns-then-depth-height
