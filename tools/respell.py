@@ -4,8 +4,8 @@
 usage: tools/respell.py [--check]
 
 Run once, at the top, behind the kit's port.py. It turns in crates/ the names that the .antt files of specs/ and proofs/ declare:
-`fromBytes` becomes `from_bytes`, and a lemma `kept-is` becomes `kept_is`, while `length-drop` keeps its dash, since both parts are
-names of definitions. Types and modules keep their capitals, and names that Rattle makes (goals and fields of a walk) stay. A name
+`fromBytes` becomes `from_bytes`, and a lemma `kept-is` becomes `kept_is`, while `length-drop_last` keeps its dash, as the library's
+lemmas on two functions do. Types and modules keep their capitals, and names that Rattle makes (goals and fields of a walk) stay. A name
 stays in a file that imports it from a library. A lemma that would meet its function in a file gets `_lem`.
 """
 
@@ -19,13 +19,10 @@ DECLARED = re.compile(r"^( *)(?:(?:unfoldable|abbrev|pub|data|record) +)*((?:[^\
 NO_NAMES = {"=", "let", "in", "λ", "→", "|", "↦", "use", "module", "unfolding"}
 USE = re.compile(r"^ *(?:pub )?(?:ghost )?use ([^\s;{]+)(?:\{([^}]*)\})?", re.M)
 MADE = re.compile(r"(?:^|[\s({,])(?:c|s|l|w|t|g|p|goal|tie)\.$")
-# names of the library that our lemmas are named after
-LIBRARY = {"length", "take", "drop", "set", "sets", "slice", "map", "append", "replicate", "get_or", "mag", "reverse"}
-
+# functions that a lemma joins by a dash, as the library's do
+JOINED = {"length", "map", "take", "drop_last"}
 # definitions whose snake case is the name of a field, and one whose words the rule does not find
 TABLE = {"callHeight": "height_of_calls", "notANumber": "not_a_number", "openCalls": "open_calls_after"}
-# words that are no name where a lemma has them
-PLAIN = {"is", "at", "below", "before", "end", "fits", "does", "rewritten", "converts", "numbers_in"}
 # names of one file that would meet a definition's new one
 FIRST = {
     "binary64/specs/Theorems.antt": {"with-sign": "has_sign"},
@@ -64,7 +61,7 @@ def declared(text):
         if line.lstrip().startswith("--"):
             continue
         m = DECLARED.match(line)
-        if m and "tie." not in line and not NO_NAMES & set(m[2].split()):
+        if m and not re.search(r"\b(tie|goal)\.", line) and not NO_NAMES & set(m[2].split()):
             yield from m[2].split()
 
 
@@ -78,13 +75,10 @@ def imported(text):
 
 def main():
     texts = {p: first(p, open(p, encoding="utf-8").read()) for p in files("crates")}
-    ours, defined = set(), set(LIBRARY)
+    ours = set()
     for p, t in texts.items():
         if p.endswith(".antt"):
-            names = set(declared(t))
-            ours |= names
-            if "/specs/" in p:
-                defined |= {snake(n) for n in names}
+            ours |= set(declared(t))
 
     def respelled(name):
         if not name[:1].islower():
@@ -93,7 +87,7 @@ def main():
         if parts[-1] != "spec":
             for k in range(1, len(parts)):
                 left, right = "_".join(parts[:k]), "_".join(parts[k:])
-                if left in defined - PLAIN and right in defined - PLAIN:
+                if left in JOINED and right in JOINED:
                     return left + "-" + right
         return "_".join(parts)
 
@@ -119,10 +113,12 @@ def main():
     turned = 0
     for p, t in sorted(texts.items()):
         lib = set(imported(t))
+        # in a function's proof the field behind `c.` is Rattle's
+        walk = re.search(r"/proofs/.*/", p)
 
         def turn(m):
             word = m[0]
-            if word not in table or word in lib or MADE.search(t, max(0, m.start() - 6), m.start()):
+            if word not in table or word in lib or walk and MADE.search(t, max(0, m.start() - 6), m.start()):
                 return word
             return table[word]
 

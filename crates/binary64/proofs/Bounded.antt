@@ -22,8 +22,8 @@ field_carry w (suc x) t h =
     lt_of_lt_of_le (mul-lt-mul_of_pos_right few (pow_pos x))
     (le_of_eq (ap (λ (z : ℕ). z * 2 ^ x) (sym double) ∙ mul_assoc (2 ^ w + 0) 2 (2 ^ x) ∙ ap (λ (z : ℕ). (2 ^ w + 0) * z) (sym (pow-succ' 2 x))))
 
-units-step : (w q : ℕ) → units w q < units w (suc q)
-units-step w q =
+units_step : (w q : ℕ) → units w q < units w (suc q)
+units_step w q =
     let x = q / 2 ^ w in
     let t = q % 2 ^ w in
     let e : x * 2 ^ w + t ≡ q = div-add-mod' q (2 ^ w) in
@@ -33,8 +33,8 @@ units-step w q =
     ]
 
 units_far : (w q d : ℕ) → units w q < units w (q + suc d)
-units_far w q zero = subst (λ (z : ℕ). units w q < units w z) (sym (add-suc q 0 ∙ ap suc (add-zero q))) (units-step w q)
-units_far w q (suc d) = lt_trans (units_far w q d) (subst (λ (z : ℕ). units w (q + suc d) < units w z) (sym (add-suc q (suc d))) (units-step w (q + suc d)))
+units_far w q zero = subst (λ (z : ℕ). units w q < units w z) (sym (add-suc q 0 ∙ ap suc (add-zero q))) (units_step w q)
+units_far w q (suc d) = lt_trans (units_far w q d) (subst (λ (z : ℕ). units w (q + suc d) < units w z) (sym (add-suc q (suc d))) (units_step w (q + suc d)))
 
 pub units_lt : (w p q : ℕ) → p < q → units w p < units w q
 units_lt w p q h =

@@ -84,8 +84,8 @@ tie_value w b P r e h = go (w % 2) (omega arith)
     go (suc (suc d)) l = absurd (omega arith)
 
 module _ (a b q : ℕ) (B : 0 < b) where
-  pub closest-near : apart (closest a b * b) a ≤ apart (q * b) a
-  closest-near = subst (λ (z : ℕ). apart (closest a b * b) z ≤ apart (q * b) z) (div-add-mod' a b) (go (compare (a % b * 2) b) (cmp (a % b * 2) b))
+  pub closest_near : apart (closest a b * b) a ≤ apart (q * b) a
+  closest_near = subst (λ (z : ℕ). apart (closest a b * b) z ≤ apart (q * b) z) (div-add-mod' a b) (go (compare (a % b * 2) b) (cmp (a % b * 2) b))
     where
       go : (o : Ordering) → Cmp o (a % b * 2) b → apart (nearest (a / b) o * b) (a / b * b + a % b) ≤ apart (q * b) (a / b * b + a % b)
       go Ordering.lt h = near_lt (a / b) q (a / b * b) (q * b) (a % b) b (mod-lt a B) h (place (a / b) q b)

@@ -21,8 +21,8 @@ module _ (w top n den p : ℕ) (D : 0 < den) (H : p ≤ top) (E : n ≡ units w 
   same : (A X N : ℕ) → N ≡ A → apart X N ≡ apart A N → X ≡ A
   same A X N e k = omega arith
 
-  pub exact-nearest : NearestEven w top n den p
-  exact-nearest = record {
+  pub exact_nearest : NearestEven w top n den p
+  exact_nearest = record {
     within = H;
     near = λ q l. nearer (units w p * den) (units w q * den) n E;
     even = λ q l ne k. absurd (ne (eq_of_mul-eq-mul_right den D (units w q) (units w p) (same (units w p * den) (units w q * den) n E k)));
@@ -33,9 +33,9 @@ split_value : (b : ℕ) (s : Bool) (m : ℕ) → m < infinity → leb (2 ^ 63) b
 unfolding value
 split_value b s m h e f = rw (e, f, le-ltb infinity m (le_of_lt h), ne_eqb m infinity (λ q. lt_irrefl m (subst (λ (z : ℕ). m < z) (sym q) h)))
 
-pub signed-value : (s : Bool) (p : ℕ) → p < infinity → value (with_sign s p) ≡ finite s (units 52 p)
-signed-value true p h = split_value (2 ^ 63 + p) true p h (le-leb (2 ^ 63) (2 ^ 63 + p) (omega arith)) (omega arith)
-signed-value false p h = split_value (0 + p) false p h (lt-leb (2 ^ 63) (0 + p) (omega arith)) (omega arith)
+pub signed_value : (s : Bool) (p : ℕ) → p < infinity → value (with_sign s p) ≡ finite s (units 52 p)
+signed_value true p h = split_value (2 ^ 63 + p) true p h (le-leb (2 ^ 63) (2 ^ 63 + p) (omega arith)) (omega arith)
+signed_value false p h = split_value (0 + p) false p h (lt-leb (2 ^ 63) (0 + p) (omega arith)) (omega arith)
 
 -- d is the pattern of ±u
 pub data Encoded (d : ℕ) (s : Bool) (u : ℕ) : Type 0 where
@@ -63,9 +63,9 @@ module _ (d : ℕ) (s : Bool) (u : ℕ) (H : d < 2 ^ 64) where
       let j : units 52 m ≡ u = cc in
       encoded m (lt_of_le-ne (ltb-false infinity m f) (eqb-false m infinity g)) j (split d t H refl ∙ ap (λ (z : Bool). with_sign z m) i)
 
-  pub value-encoded : value d ≡ finite s u → Encoded d s u
+  pub value_encoded : value d ≡ finite s u → Encoded d s u
   unfolding value
-  value-encoded e = by_tests (is_nan d) (eqb m infinity) refl refl e
+  value_encoded e = by_tests (is_nan d) (eqb m infinity) refl refl e
 
 -- ---- a number of at most w + 1 digits times a power of two is the units of a pattern
 pub data Pattern (w v : ℕ) : Type 0 where

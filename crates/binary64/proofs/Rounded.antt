@@ -9,7 +9,7 @@ use lib.Dec.{ltb}
 use lib.Pow.{pow_pos}
 use Rattle.binary64.proofs.Bounded.{round_nearest}
 use Rattle.binary64.proofs.Unique.{unique, over, reaches}
-use Rattle.binary64.proofs.Exact.{exact-nearest, signed-value, Encoded, encoded, value-encoded, Pattern, pattern, pattern_of, below_infinity}
+use Rattle.binary64.proofs.Exact.{exact_nearest, signed_value, Encoded, encoded, value_encoded, Pattern, pattern, pattern_of, below_infinity}
 use Rattle.binary64.proofs.Special.{special, nan_result}
 use Rattle.binary64.specs.Rounding.{count, units, NearestEven, round_pattern}
 use Rattle.binary64.specs.Binary64.{infinity, finite, value, with_sign, Exact, exactly, exact_sum, exact_product, exact_quotient, rounded, sum, opposite, product, quotient, sum_bits, difference_bits, product_bits, quotient_bits, of_whole}
@@ -47,15 +47,15 @@ overflows n den D =
 
 -- ---- exact results
 -- the pattern p of an exact result is the only nearest one
-only-exact : (n den p q : ℕ) → 0 < den → p < infinity → n ≡ units 52 p * den → NearestEven 52 infinity n den q → q ≡ p
-only-exact n den p q D h e Q = only_one n den q p D Q (exact-nearest 52 infinity n den p D (le_of_lt h) e)
+only_exact : (n den p q : ℕ) → 0 < den → p < infinity → n ≡ units 52 p * den → NearestEven 52 infinity n den q → q ≡ p
+only_exact n den p q D h e Q = only_one n den q p D Q (exact_nearest 52 infinity n den p D (le_of_lt h) e)
 
 exact : ExactResultIsGiven
-exact e d u r D B v N R = go (value-encoded d e.sign u B v)
+exact e d u r D B v N R = go (value_encoded d e.sign u B v)
   where
     go : Encoded d e.sign u → r ≡ d
     go (encoded p h f g) =
-        let q : R.magnitude ≡ p = only-exact e.numerator e.denominator p R.magnitude D h (N ∙ ap (λ (z : ℕ). z * e.denominator) (sym f)) R.nearest in
+        let q : R.magnitude ≡ p = only_exact e.numerator e.denominator p R.magnitude D h (N ∙ ap (λ (z : ℕ). z * e.denominator) (sym f)) R.nearest in
         R.has_sign ∙ ap (with_sign e.sign) q ∙ sym g
 
 -- ---- the operations
@@ -70,9 +70,9 @@ sum_fraction s u t v = go (beq s t) (ltb u v) _ _ _ (le_refl 1) (le_refl 1) (le_
     go false true e f g p q r = q
     go false false e f g p q r = r
 
-sum-rounded : SumIsRounded
+sum_rounded : SumIsRounded
 unfolding sum_bits sum
-sum-rounded a b s u t v p q = rw (p, q) (is_rounded (exact_sum s u t v) (sum_fraction s u t v))
+sum_rounded a b s u t v p q = rw (p, q) (is_rounded (exact_sum s u t v) (sum_fraction s u t v))
 
 zero_pattern : round_pattern 52 infinity 0 1 ≡ 0
 unfolding round_pattern count
@@ -99,32 +99,32 @@ zero_difference : ZeroDifferenceIsSigned
 unfolding difference_bits sum opposite
 zero_difference a b s u t v p q e = rw (p, q) (zero_signed s u (not t) v e)
 
-difference-rounded : DifferenceIsRounded
+difference_rounded : DifferenceIsRounded
 unfolding difference_bits sum opposite
-difference-rounded a b s u t v p q = rw (p, q) (is_rounded (exact_sum s u (not t) v) (sum_fraction s u (not t) v))
+difference_rounded a b s u t v p q = rw (p, q) (is_rounded (exact_sum s u (not t) v) (sum_fraction s u (not t) v))
 
-product-rounded : ProductIsRounded
+product_rounded : ProductIsRounded
 unfolding product_bits product
-product-rounded a b s u t v p q = rw (p, q) (is_rounded (exact_product s u t v) (pow_pos 1074))
+product_rounded a b s u t v p q = rw (p, q) (is_rounded (exact_product s u t v) (pow_pos 1074))
 
-quotient-rounded : QuotientIsRounded
+quotient_rounded : QuotientIsRounded
 unfolding quotient_bits quotient
-quotient-rounded a b s u t v p q D = rw (p, q, ne_eqb v 0 (λ e. lt_irrefl 0 (subst (λ (z : ℕ). 0 < z) e D))) (is_rounded (exact_quotient s u t v) D)
+quotient_rounded a b s u t v p q D = rw (p, q, ne_eqb v 0 (λ e. lt_irrefl 0 (subst (λ (z : ℕ). 0 < z) e D))) (is_rounded (exact_quotient s u t v) D)
 
 -- ---- whole numbers
-whole-rounded : WholeIsRounded
+whole_rounded : WholeIsRounded
 unfolding of_whole
-whole-rounded n = is_rounded (exactly false (n * 2 ^ 1074) 1) (le_refl 1)
+whole_rounded n = is_rounded (exactly false (n * 2 ^ 1074) 1) (le_refl 1)
 
-whole-exact : WholeIsExact
+whole_exact : WholeIsExact
 unfolding of_whole
-whole-exact n h = go (pattern_of 52 1074 n h)
+whole_exact n h = go (pattern_of 52 1074 n h)
   where
     go : Pattern 52 (n * 2 ^ 1074) → value (rounded (exactly false (n * 2 ^ 1074) 1)) ≡ finite false (n * 2 ^ 1074)
     go (pattern p e) =
         let l : p < infinity = below_infinity n p h e in
-        let q = only-exact (n * 2 ^ 1074) 1 p _ (le_refl 1) l (sym (mul-one (units 52 p) ∙ e)) (nearest (n * 2 ^ 1074) 1 (le_refl 1)) in
-        ap (λ (z : ℕ). value (with_sign false z)) q ∙ signed-value false p l ∙ ap (finite false) e
+        let q = only_exact (n * 2 ^ 1074) 1 p _ (le_refl 1) l (sym (mul-one (units 52 p) ∙ e)) (nearest (n * 2 ^ 1074) 1 (le_refl 1)) in
+        ap (λ (z : ℕ). value (with_sign false z)) q ∙ signed_value false p l ∙ ap (finite false) e
 
 pub theorems : Theorems
 theorems = record {
@@ -132,14 +132,14 @@ theorems = record {
   only_one = only_one;
   overflows = overflows;
   exact = exact;
-  sum = sum-rounded;
+  sum = sum_rounded;
   zero_sum = zero_sum;
-  difference = difference-rounded;
+  difference = difference_rounded;
   zero_difference = zero_difference;
-  product = product-rounded;
-  quotient = quotient-rounded;
+  product = product_rounded;
+  quotient = quotient_rounded;
   special = special;
   nan_result = nan_result;
-  whole = whole-rounded;
-  whole-exact = whole-exact;
+  whole = whole_rounded;
+  whole_exact = whole_exact;
 }

@@ -106,37 +106,37 @@ of_test : (b : Bool) {x y : ℕ} → NaNIsQuiet x → NaNIsQuiet y → NaNIsQuie
 of_test true p q = p
 of_test false p q = q
 
-sum-quiet : (x y : Value) → NaNIsQuiet (sum x y)
+sum_quiet : (x y : Value) → NaNIsQuiet (sum x y)
 unfolding sum
-sum-quiet not_a_number y = is_quiet
-sum-quiet (infinite s) not_a_number = is_quiet
-sum-quiet (infinite s) (infinite t) = of_test (beq s t) (of_infinity s) is_quiet
-sum-quiet (infinite s) (finite t v) = of_infinity s
-sum-quiet (finite s u) not_a_number = is_quiet
-sum-quiet (finite s u) (infinite t) = of_infinity t
-sum-quiet (finite s u) (finite t v) = of_rounded (exact_sum s u t v)
+sum_quiet not_a_number y = is_quiet
+sum_quiet (infinite s) not_a_number = is_quiet
+sum_quiet (infinite s) (infinite t) = of_test (beq s t) (of_infinity s) is_quiet
+sum_quiet (infinite s) (finite t v) = of_infinity s
+sum_quiet (finite s u) not_a_number = is_quiet
+sum_quiet (finite s u) (infinite t) = of_infinity t
+sum_quiet (finite s u) (finite t v) = of_rounded (exact_sum s u t v)
 
-product-quiet : (x y : Value) → NaNIsQuiet (product x y)
+product_quiet : (x y : Value) → NaNIsQuiet (product x y)
 unfolding product
-product-quiet not_a_number y = is_quiet
-product-quiet (infinite s) not_a_number = is_quiet
-product-quiet (infinite s) (infinite t) = of_infinity (unlike s t)
-product-quiet (infinite s) (finite t v) = of_test (eqb v 0) is_quiet (of_infinity (unlike s t))
-product-quiet (finite s u) not_a_number = is_quiet
-product-quiet (finite s u) (infinite t) = of_test (eqb u 0) is_quiet (of_infinity (unlike s t))
-product-quiet (finite s u) (finite t v) = of_rounded (exact_product s u t v)
+product_quiet not_a_number y = is_quiet
+product_quiet (infinite s) not_a_number = is_quiet
+product_quiet (infinite s) (infinite t) = of_infinity (unlike s t)
+product_quiet (infinite s) (finite t v) = of_test (eqb v 0) is_quiet (of_infinity (unlike s t))
+product_quiet (finite s u) not_a_number = is_quiet
+product_quiet (finite s u) (infinite t) = of_test (eqb u 0) is_quiet (of_infinity (unlike s t))
+product_quiet (finite s u) (finite t v) = of_rounded (exact_product s u t v)
 
-quotient-quiet : (x y : Value) → NaNIsQuiet (quotient x y)
+quotient_quiet : (x y : Value) → NaNIsQuiet (quotient x y)
 unfolding quotient
-quotient-quiet not_a_number y = is_quiet
-quotient-quiet (infinite s) not_a_number = is_quiet
-quotient-quiet (infinite s) (infinite t) = is_quiet
-quotient-quiet (infinite s) (finite t v) = of_infinity (unlike s t)
-quotient-quiet (finite s u) not_a_number = is_quiet
-quotient-quiet (finite s u) (infinite t) = up_to_infinity (unlike s t) 0 (omega arith)
-quotient-quiet (finite s u) (finite t v) = of_test (eqb v 0) (of_test (eqb u 0) is_quiet (of_infinity (unlike s t))) (of_rounded (exact_quotient s u t v))
+quotient_quiet not_a_number y = is_quiet
+quotient_quiet (infinite s) not_a_number = is_quiet
+quotient_quiet (infinite s) (infinite t) = is_quiet
+quotient_quiet (infinite s) (finite t v) = of_infinity (unlike s t)
+quotient_quiet (finite s u) not_a_number = is_quiet
+quotient_quiet (finite s u) (infinite t) = up_to_infinity (unlike s t) 0 (omega arith)
+quotient_quiet (finite s u) (finite t v) = of_test (eqb v 0) (of_test (eqb u 0) is_quiet (of_infinity (unlike s t))) (of_rounded (exact_quotient s u t v))
 
 pub nan_result : NaNResultIsQuiet
 unfolding sum_bits difference_bits product_bits quotient_bits
 nan_result =
-    (λ a b. sum-quiet (value a) (value b), λ a b. sum-quiet (value a) (opposite (value b)), λ a b. product-quiet (value a) (value b), λ a b. quotient-quiet (value a) (value b))
+    (λ a b. sum_quiet (value a) (value b), λ a b. sum_quiet (value a) (opposite (value b)), λ a b. product_quiet (value a) (value b), λ a b. quotient_quiet (value a) (value b))

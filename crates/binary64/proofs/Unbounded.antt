@@ -12,7 +12,7 @@ use lib.Ieee.{size}
 use lib.Ieee.Digits.{size_reaches, back}
 use lib.Ieee.Fits.{kept-lt, nearest-le}
 use lib.Ieee.Nearest.{closest, nearest-ge}
-use Rattle.binary64.proofs.Closest.{closest-near, closest_tie}
+use Rattle.binary64.proofs.Closest.{closest_near, closest_tie}
 use Rattle.binary64.specs.Rounding.{apart, field_units, units}
 
 pub lt_or_ge : (a b : ℕ) → (a < b) ⊎ (b ≤ a)
@@ -136,25 +136,25 @@ module _ (w n den : ℕ) (D : 0 < den) where
   strict A M X N h l g = omega arith
 
   spot_near : (v : ℕ) → Spot v → apart (closest n unit * unit) n ≤ apart (v * den) n
-  spot_near v (multiple m e) = subst (λ (z : ℕ). apart (closest n unit * unit) n ≤ apart z n) (sym (ap (λ (z : ℕ). z * den) e ∙ by_unit m)) (closest-near n unit m unit_pos)
-  spot_near v (lower l g) = le_of_lt (strict (closest n unit * unit) (2 ^ w * unit) (v * den) n (closest-near n unit (2 ^ w) unit_pos) l g)
+  spot_near v (multiple m e) = subst (λ (z : ℕ). apart (closest n unit * unit) n ≤ apart z n) (sym (ap (λ (z : ℕ). z * den) e ∙ by_unit m)) (closest_near n unit m unit_pos)
+  spot_near v (lower l g) = le_of_lt (strict (closest n unit * unit) (2 ^ w * unit) (v * den) n (closest_near n unit (2 ^ w) unit_pos) l g)
 
   spot_even : (v : ℕ) → Spot v → (v ≡ closest n unit * 2 ^ dropped → ⊥) → apart (v * den) n ≡ apart (closest n unit * unit) n → closest n unit % 2 ≡ 0
   spot_even v (multiple m e) ne k =
       closest_tie n unit m unit_pos (λ (q : m ≡ closest n unit). ne (e ∙ ap (λ (z : ℕ). z * 2 ^ dropped) q))
       (subst (λ (z : ℕ). apart z n ≡ apart (closest n unit * unit) n) (ap (λ (z : ℕ). z * den) e ∙ by_unit m) k)
-  spot_even v (lower l g) ne k = absurd (lt_irrefl _ (subst (λ (z : ℕ). apart (closest n unit * unit) n < z) k (strict (closest n unit * unit) (2 ^ w * unit) (v * den) n (closest-near n unit (2 ^ w) unit_pos) l g)))
+  spot_even v (lower l g) ne k = absurd (lt_irrefl _ (subst (λ (z : ℕ). apart (closest n unit * unit) n < z) k (strict (closest n unit * unit) (2 ^ w * unit) (v * den) n (closest_near n unit (2 ^ w) unit_pos) l g)))
 
   pub free_near : (q : ℕ) → apart (units w free * den) n ≤ apart (units w q * den) n
   free_near q = subst (λ (z : ℕ). apart z n ≤ apart (units w q * den) n) (sym free_value) (spot_near (units w q) (spot (units w q) (form_of w q)))
 
-  kept-even : (q : ℕ) → (units w q ≡ units w free → ⊥) → apart (units w q * den) n ≡ apart (units w free * den) n → closest n unit % 2 ≡ 0
-  kept-even q ne k =
+  kept_even : (q : ℕ) → (units w q ≡ units w free → ⊥) → apart (units w q * den) n ≡ apart (units w free * den) n → closest n unit % 2 ≡ 0
+  kept_even q ne k =
       spot_even (units w q) (spot (units w q) (form_of w q)) (λ (e : units w q ≡ closest n unit * 2 ^ dropped). ne (e ∙ sym free_units))
       (subst (λ (z : ℕ). apart (units w q * den) n ≡ apart z n) free_value k)
 
   pub free_even : 0 < w → (q : ℕ) → (units w q ≡ units w free → ⊥) → apart (units w q * den) n ≡ apart (units w free * den) n → free % 2 ≡ 0
-  free_even W q ne k = parity w dropped (closest n unit) W (kept-even q ne k)
+  free_even W q ne k = parity w dropped (closest n unit) W (kept_even q ne k)
     where
       parity : (w k c : ℕ) → 0 < w → c % 2 ≡ 0 → (k * 2 ^ w + c) % 2 ≡ 0
       parity zero k c W h = absurd (lt_irrefl 0 W)

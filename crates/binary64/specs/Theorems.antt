@@ -84,4 +84,4 @@ pub record Theorems : Type 0 where
   pub special : SpecialCasesHold
   pub nan_result : NaNResultIsQuiet
   pub whole : WholeIsRounded
-  pub whole-exact : WholeIsExact
+  pub whole_exact : WholeIsExact

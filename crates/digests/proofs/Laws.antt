@@ -14,18 +14,18 @@ use Rattle.machine.specs.Lookup.{Program}
 use Rattle.machine.specs.Run.{Result}
 use Rattle.digests.specs.Digests.{once, mixed, mixed_all, stepped, digest_after, agreeing}
 
-pub once-small : (h half : ℕ) → once h half < 2 ^ 32
+pub once_small : (h half : ℕ) → once h half < 2 ^ 32
 unfolding once
-once-small h half = omega arith
+once_small h half = omega arith
 
-pub mixed-small : (h x : ℕ) → mixed h x < 2 ^ 32
+pub mixed_small : (h x : ℕ) → mixed h x < 2 ^ 32
 unfolding mixed
-mixed-small h x = once-small _ _
+mixed_small h x = once_small _ _
 
 pub all_small : (h : ℕ) (xs : List ℕ) → h < 2 ^ 32 → mixed_all h xs < 2 ^ 32
 unfolding mixed_all
 all_small h [] small = small
-all_small h (x ∷ xs) small = all_small (mixed h x) xs (mixed-small h x)
+all_small h (x ∷ xs) small = all_small (mixed h x) xs (mixed_small h x)
 
 pub all_append : (h : ℕ) (xs ys : List ℕ) → mixed_all h (xs ++ ys) ≡ mixed_all (mixed_all h xs) ys
 unfolding mixed_all
@@ -41,7 +41,7 @@ pub record Mixing (from : ℕ) (xs : List ℕ) (h i : ℕ) : Type 0 where
 pub mixing_next : (from : ℕ) (xs : List ℕ) (h i r : ℕ) → Mixing from xs h i → i < length xs → r ≡ mixed h (get_or xs i 0) → Mixing from xs r (i + 1)
 unfolding mixed_all
 mixing_next from xs h i r k below e =
-    record { inside = omega arith; small = rw e (mixed-small _ _); rest = rw (e, add-one) (rw (drop-cons xs i 0) at k.rest) }
+    record { inside = omega arith; small = rw e (mixed_small _ _); rest = rw (e, add-one) (rw (drop-cons xs i 0) at k.rest) }
 
 pub mixing_end : (from : ℕ) (xs : List ℕ) (h i : ℕ) → Mixing from xs h i → length xs ≤ i → h ≡ mixed_all from xs
 unfolding mixed_all
@@ -63,17 +63,17 @@ module _ (p : Program) (m : Machine) (ds : List ℕ) (m' : Machine) (i : ℕ) (k
 
   -- one more step, with the digest d where w is recorded
   module _ (r : Result) (d w : ℕ) (below : i < length ds) (is : r ≡ stepped p m') (digest : d ≡ digest_after r) (recorded : w ≡ get_or ds i 0) where
-    step-rest : agreeing p m' (drop i ds) ≡ cond (eqb d w) (suc (agreeing p r.machine (drop (i + 1) ds))) 0
+    step_rest : agreeing p m' (drop i ds) ≡ cond (eqb d w) (suc (agreeing p r.machine (drop (i + 1) ds))) 0
     unfolding agreeing
-    step-rest = rw (digest, recorded, is, add-one, drop-cons ds i 0)
+    step_rest = rw (digest, recorded, is, add-one, drop-cons ds i 0)
 
-    pub agreeing-next : d ≡ w → Agreeing p m ds r.machine (i + 1)
-    agreeing-next same =
-        let e = rw (eq-eqb d w same) at step-rest in
+    pub agreeing_next : d ≡ w → Agreeing p m ds r.machine (i + 1)
+    agreeing_next same =
+        let e = rw (eq-eqb d w same) at step_rest in
         record { inside = omega arith; rest = let f = k.rest in omega arith }
 
     pub agreeing_differs : (d ≡ w → ⊥) → i ≡ agreeing p m ds
-    agreeing_differs other = let e = rw (ne_eqb d w other) at step-rest in let f = k.rest in omega arith
+    agreeing_differs other = let e = rw (ne_eqb d w other) at step_rest in let f = k.rest in omega arith
 
 -- no more steps agree than there are digests
 most_next : (b : Bool) (n k : ℕ) → n ≤ k → cond b (suc n) 0 ≤ suc k

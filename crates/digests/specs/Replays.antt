@@ -15,5 +15,5 @@ replayed image insts labels number ds (starts m count) =
 -- what a call answers, and leaves in the two tables
 pub record ReplayImage (image : List ℕ) (number : ℕ) (recorded insts labels : List ℕ) (r : Replayed) (insts' labels' : List ℕ) : Type 0 where
   pub answers : r ≡ replayed image insts' labels' number (records_of word recorded) (reply_of (load_of image insts labels))
-  pub insts-are : insts' ≡ insts_left (load_of image insts labels) insts
-  pub labels-are : labels' ≡ labels_left (load_of image insts labels) labels
+  pub insts_are : insts' ≡ insts_left (load_of image insts labels) insts
+  pub labels_are : labels' ≡ labels_left (load_of image insts labels) labels

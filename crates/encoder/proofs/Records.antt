@@ -27,13 +27,13 @@ abbrev pub IsAt : List Inst → ℕ → Inst → Type 0
 IsAt is i r = (d : Inst) → r ≡ get_or is i d
 
 module _ (is : List Inst) (count : ℕ) (within : count ≤ length is) where
-  left-next : (i : ℕ) (r : Inst) → i < count → IsAt is i r → left is count i ≡ r ∷ left is count (i + 1)
-  left-next i r h e =
+  left_next : (i : ℕ) (r : Inst) → i < count → IsAt is i r → left is count i ≡ r ∷ left is count (i + 1)
+  left_next i r h e =
       let l : i < length (take count is) = rw (length-take-le count is within) h in
       rw (add-one, drop-cons (take count is) i r l, get_or-take count is i r h, ← (e r))
 
-  left-none : (i : ℕ) → count ≤ i → left is count i ≡ []
-  left-none i h = let l : length (take count is) ≤ i = rw (length-take-le count is within) h in drop_of_length-le (take count is) l
+  left_none : (i : ℕ) → count ≤ i → left is count i ≡ []
+  left_none i h = let l : length (take count is) ≤ i = rw (length-take-le count is within) h in drop_of_length-le (take count is) l
 
 -- the first pass at record i: all before are well formed, and r is what their bytes left of the room
 pub record Checked (image : List ℕ) (is : List Inst) (count room : ℕ) (r : Room) (i : ℕ) : Type 0 where
@@ -45,22 +45,22 @@ pub record Checked (image : List ℕ) (is : List Inst) (count room : ℕ) (r : R
   pub total : bytes + length (bytes_of_all image (left is count i)) ≡ length (bytes_of_all image (take count is))
 
 module _ (image : List ℕ) (is : List Inst) (count room : ℕ) where
-  pub checked-none : count ≤ length is → Checked image is count room (record { left = room; short = false }) 0
-  checked-none h =
+  pub checked_none : count ≤ length is → Checked image is count room (record { left = room; short = false }) 0
+  checked_none h =
       record { within = h; inside = omega arith; well = refl; bytes = 0; fits = record { inside = omega arith; rest = λ e. omega arith; past = λ e. never e }; total = omega arith }
 
   module _ (r : Room) (i : ℕ) (s : Checked image is count room r i) where
     -- the next record is ill
-    pub checked-ill : (x : Inst) → i < count → IsAt is i x → well_formed image x ≡ false → size_of image is count ≡ unencoded 9
+    pub checked_ill : (x : Inst) → i < count → IsAt is i x → well_formed image x ≡ false → size_of image is count ≡ unencoded 9
     unfolding all_well_formed
-    checked-ill x h e w = ill image is count (s.well ∙ rw (left-next is count s.within i x h e, w))
+    checked_ill x h e w = ill image is count (s.well ∙ rw (left_next is count s.within i x h e, w))
 
     -- or its size is added
-    pub checked-next : (x : Inst) (len : ℕ) (r' : Room) → i < count → IsAt is i x → well_formed image x ≡ true → len ≡ length (as_bytes image x)
+    pub checked_next : (x : Inst) (len : ℕ) (r' : Room) → i < count → IsAt is i x → well_formed image x ≡ true → len ≡ length (as_bytes image x)
         → ((room n : ℕ) → Fits room n r → Fits room (n + len) r') → Checked image is count room r' (i + 1)
     unfolding all_well_formed bytes_of_all
-    checked-next x len r' h e w l f =
-        let next = left-next is count s.within i x h e in
+    checked_next x len r' h e w l f =
+        let next = left_next is count s.within i x h e in
         let t = simp (next, length-append) at s.total in
         record {
           within = s.within;
@@ -74,7 +74,7 @@ module _ (image : List ℕ) (is : List Inst) (count room : ℕ) where
     pub checked_all : (w : Written) → count ≤ i → ((n : ℕ) → Fits room n r → means w ≡ in_room room (encoded n)) → means w ≡ in_room room (size_of image is count)
     unfolding all_well_formed bytes_of_all
     checked_all w h f =
-        let none = left-none is count s.within i h in
+        let none = left_none is count s.within i h in
         let t = rw (none, add-zero) at s.total in
         f s.bytes s.fits ∙ rw (whole image is count s.within (s.well ∙ rw none), t)
 
@@ -91,17 +91,17 @@ module _ (image : List ℕ) (is : List Inst) (count : ℕ) (out₀ out : List �
   -- what put_inst requires of the next record
   pub stored_well : (r : Inst) → i < count → IsAt is i r → well_formed image r ≡ true
   unfolding all_well_formed
-  stored_well r h e = and_left (well_formed image r) _ (rw (left-next is count s.within i r h e) at s.well)
+  stored_well r h e = and_left (well_formed image r) _ (rw (left_next is count s.within i r h e) at s.well)
 
   pub stored_fits : (r : Inst) → i < count → IsAt is i r → at + length (as_bytes image r) ≤ length out
   unfolding bytes_of_all
-  stored_fits r h e = let f = simp (left-next is count s.within i r h e, length-append) at s.fits in omega arith
+  stored_fits r h e = let f = simp (left_next is count s.within i r h e, length-append) at s.fits in omega arith
 
   pub stored_next : (r : Inst) (out' : List ℕ) (n : ℕ) → i < count → IsAt is i r → n ≡ length (as_bytes image r) → out' ≡ sets out at (as_bytes image r)
       → Stored image is count out₀ out' (at + n) (i + 1)
   unfolding all_well_formed bytes_of_all
   stored_next r out' n h e l p =
-      let next = left-next is count s.within i r h e in
+      let next = left_next is count s.within i r h e in
       let f = simp (next, length-append) at s.fits in
       let k : length out' ≡ length out = rw (p, length-sets) in
       record {
@@ -115,4 +115,4 @@ module _ (image : List ℕ) (is : List Inst) (count : ℕ) (out₀ out : List �
 
   pub stored_all : count ≤ i → out ≡ sets out₀ 0 (bytes_of_all image (take count is))
   unfolding bytes_of_all
-  stored_all h = rw (left-none is count s.within i h) at s.gives
+  stored_all h = rw (left_none is count s.within i h) at s.gives

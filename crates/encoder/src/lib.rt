@@ -83,7 +83,7 @@ fn write(forms: &[u8; TABLE_SIZE], image: &[u8], insts: &[u8], count: usize, out
     requires forms_value { forms.now ≡ form_table }
     requires count_in_bounds { count ≤ length (insts_of insts.now) }
     requires insts_value { all_well_formed image.now (take count (insts_of insts.now)) ≡ true }
-    requires insts_in_bounds { length (bytes_of_all image.now (take count (insts_of insts.now))) ≤ length out.old }
+    requires room { length (bytes_of_all image.now (take count (insts_of insts.now))) ≤ length out.old }
     ensures { out.new ≡ sets out.old 0 (bytes_of_all image.now (take count (insts_of insts.now))) }
 {
     let mut at = 0;

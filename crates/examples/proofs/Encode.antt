@@ -26,9 +26,9 @@ record Computed : Type 0 where
   past : encode image insts 6 [] ≡ unencoded 9
   -- the room, asked for
   asked : encoded_size image insts 4 ≡ encoded 15
-  asked-ill : encoded_size image insts 5 ≡ unencoded 9
+  asked_ill : encoded_size image insts 5 ≡ unencoded 9
   untouched : output_after (unencoded 9) image insts 5 (7 ∷ []) ≡ 7 ∷ []
 
 computed : Computed
 unfolding insts image form_of has_none has_eight has_one has_name name_ok name_in fits well_formed bytes_of operand_bytes as_bytes all_well_formed bytes_of_all size_of in_room encode encoded_size output_after
-computed = record { written = refl; size = refl; short = refl; ill = refl; past = refl; asked = refl; asked-ill = refl; untouched = refl }
+computed = record { written = refl; size = refl; short = refl; ill = refl; past = refl; asked = refl; asked_ill = refl; untouched = refl }

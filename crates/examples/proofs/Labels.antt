@@ -60,10 +60,10 @@ module _ (n k : ℕ) (h : k < n) where
   read =
       simp (size n, lt-leb (n * 9) (k * 9) (omega arith), first, le-ltb (n * 9) (k * 9 + 9) (omega arith), field, add-zero (k * 9 + 9), slice_empty (k * 9 + 9) (definitions n))
 
-linked-size : (i : Inst) (target : ℕ) (ls : List Label) → 0 < length ls → length (linked i target ls) ≡ length ls + 1
+linked_size : (i : Inst) (target : ℕ) (ls : List Label) → 0 < length ls → length (linked i target ls) ≡ length ls + 1
 unfolding linked
-linked-size i target [] h = absurd (omega arith)
-linked-size i target (l ∷ ls) h = simp length-append (omega arith)
+linked_size i target [] h = absurd (omega arith)
+linked_size i target (l ∷ ls) h = simp length-append (omega arith)
 
 module _ (n : ℕ) (over : 512 < n) where
   -- with room for `left` more
@@ -77,7 +77,7 @@ module _ (n : ℕ) (over : 512 < n) where
   too_many (suc fuel) (suc left) s a e h l =
       let k = length s.insts in
       simp (a, size n, lt-ltb (k * 9) (n * 9) (omega arith), read n k (omega arith), lt-leb inst_limit k (omega arith), lt-leb label_records (length s.labels) (omega arith))
-      (too_many fuel left _ (simp length-append (omega arith)) (simp length-append (linked-size _ k s.labels (omega arith) ∙ ap (λ (x : ℕ). x + 1) e)) (simp length-append (omega arith)) (omega arith))
+      (too_many fuel left _ (simp length-append (omega arith)) (simp length-append (linked_size _ k s.labels (omega arith) ∙ ap (λ (x : ℕ). x + 1) e)) (simp length-append (omega arith)) (omega arith))
 
   pub refused : n ≤ 1820 → loads (definitions n) ≡ rejects 6
   unfolding loads finished

@@ -162,7 +162,7 @@ retold : (s : State) × (history_of image loaded 10 ≡ end s) × (s.dumps ≡ f
 unfolding results history_of
 retold =
     let t = runs_are_one_history image insts labels loaded bytes computed.accepted requests results (runs_from _ _ requests) in
-    (t.last, rw computed.steps at t.history_is, t.dumps-are ∙ computed.dumped, t.machine_is)
+    (t.last, rw computed.steps at t.history_is, t.dumps_are ∙ computed.dumped, t.machine_is)
 
 -- and at every point of it height and return addresses are those counted
 counted : (k : ℕ) → k ≤ 10 → (s : State) × (history_of image loaded k ≡ end s) × Counted s × Below 11 s.machine

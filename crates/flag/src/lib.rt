@@ -43,8 +43,8 @@ pub fn cmp(a: u64, b: u64) -> u8
 // Whether the flag that the jump with the first byte `op` tests is set. Only our own steps call it, for the
 // conditional jumps, JE to JNZ.
 pub fn is_set(flags: u8, op: u64) -> bool
-    requires fact_1 { 12 ≤ op }
-    requires fact_2 { op ≤ 19 }
+    requires at_least { 12 ≤ op }
+    requires at_most { op ≤ 19 }
     ensures { result ≡ spec.is_set flags op }
 {
     (flags >> (op - ops::JE)) % 2 == 1

@@ -92,12 +92,12 @@ module _ (m u : ℕ) (e : ℤ) (a : m * up e * 2 ^ 1074 ≡ u * down e) where
       ap (ltb 0) r ∙ ltb_same 0 (m * up e) (down e) 0 u (down_pos e) (sym (zero-mul (down e))) a
   below_part false = le-ltb (m * up e * 1) (0 * 1 * down e) (omega arith)
 
-signed-means : {p : Value} {x : Float} → Means p x → to_signed 63 x ≡ signed_whole p
+signed_means : {p : Value} {x : Float} → Means p x → to_signed 63 x ≡ signed_whole p
 unfolding to_signed signed_whole
-signed-means not_number = refl
-signed-means (endless true) = refl
-signed-means (endless false) = refl
-signed-means (number s u m e a) = signed_part m u e a s
+signed_means not_number = refl
+signed_means (endless true) = refl
+signed_means (endless false) = refl
+signed_means (number s u m e a) = signed_part m u e a s
 
 unsigned_means : {p : Value} {x : Float} → Means p x → to_unsigned 64 x ≡ unsigned_whole p
 unfolding to_unsigned unsigned_whole
@@ -122,7 +122,7 @@ module _ (a : ℕ) {x : Float} (p : x ≡ of_bits binary64 a) where
 
   pub signed_of : to_signed 63 x ≡ to_i64 a
   unfolding to_i64
-  signed_of = signed-means (read a p)
+  signed_of = signed_means (read a p)
 
   pub unsigned_of : to_unsigned 64 x ≡ to_u64 a
   unfolding to_u64

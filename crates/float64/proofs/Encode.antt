@@ -68,8 +68,8 @@ unfolding to_bits
 infinite_bits true = refl
 infinite_bits false = refl
 
-infinite-units : units 52 infinity ≡ 2 ^ 2098
-infinite-units = refl
+infinite_units : units 52 infinity ≡ 2 ^ 2098
+infinite_units = refl
 
 units_bits : (s : Bool) (q k : ℕ) → q ≤ 2 ^ 53 → (0 < k → 2 ^ 52 ≤ q) → to_bits binary64 (Ieee.units binary64 s q k) ≡ with_sign s (min infinity (k * 2 ^ 52 + q))
 unfolding Ieee.units
@@ -79,10 +79,10 @@ units_bits s q k C L = go (ltb (q * 2 ^ k) (2 ^ 2098)) (ltb→lt (q * 2 ^ k) (2 
     pu = carried 52 k q C L
 
     few : q * 2 ^ k < 2 ^ 2098 → (k * 2 ^ 52 + q) ≤ infinity
-    few h = elim (lt_or_ge infinity (k * 2 ^ 52 + q)) [ inl l ↦ absurd (not-le_of_lt h (le_trans (le_of_eq (sym infinite-units)) (le_trans (units_le 52 infinity (k * 2 ^ 52 + q) (le_of_lt l)) (le_of_eq pu)))) | inr g ↦ g ]
+    few h = elim (lt_or_ge infinity (k * 2 ^ 52 + q)) [ inl l ↦ absurd (not-le_of_lt h (le_trans (le_of_eq (sym infinite_units)) (le_trans (units_le 52 infinity (k * 2 ^ 52 + q) (le_of_lt l)) (le_of_eq pu)))) | inr g ↦ g ]
 
     many : 2 ^ 2098 ≤ q * 2 ^ k → infinity ≤ (k * 2 ^ 52 + q)
-    many h = elim (lt_or_ge (k * 2 ^ 52 + q) infinity) [ inl l ↦ absurd (not-le_of_lt (lt_of_lt_of_le (units_lt 52 (k * 2 ^ 52 + q) infinity l) (le_of_eq infinite-units)) (le_trans h (le_of_eq (sym pu)))) | inr g ↦ g ]
+    many h = elim (lt_or_ge (k * 2 ^ 52 + q) infinity) [ inl l ↦ absurd (not-le_of_lt (lt_of_lt_of_le (units_lt 52 (k * 2 ^ 52 + q) infinity l) (le_of_eq infinite_units)) (le_trans h (le_of_eq (sym pu)))) | inr g ↦ g ]
 
     go : (b : Bool) → (T b → q * 2 ^ k < 2 ^ 2098) → (T (not b) → 2 ^ 2098 ≤ q * 2 ^ k) → to_bits binary64 (cond b (odd 54 s q k 1074) (inf s)) ≡ with_sign s (min infinity (k * 2 ^ 52 + q))
     go true h g =

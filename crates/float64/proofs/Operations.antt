@@ -35,8 +35,8 @@ cond_bits true x y = refl
 cond_bits false x y = refl
 
 -- ---- rounding, from the library's fraction to a fraction of units
-rounded-same : (s : Bool) (A C n den : ℕ) → 0 < C → 0 < den → A * L * den ≡ n * C → to_bits f (round f s A C) ≡ rounded (exactly s n den)
-rounded-same s A C n den P D e = round_bits s A C P ∙ ap (with_sign s) (pattern_same 52 infinity (A * L) C n den P D e)
+rounded_same : (s : Bool) (A C n den : ℕ) → 0 < C → 0 < den → A * L * den ≡ n * C → to_bits f (round f s A C) ≡ rounded (exactly s n den)
+rounded_same s A C n den P D e = round_bits s A C P ∙ ap (with_sign s) (pattern_same 52 infinity (A * L) C n den P D e)
 
 -- ---- sums
 module _ (A B C u v : ℕ) (P : 0 < C) (a : A * L ≡ u * C) (b : B * L ≡ v * C) where
@@ -49,8 +49,8 @@ module _ (A B C u v : ℕ) (P : 0 < C) (a : A * L ≡ u * C) (b : B * L ≡ v * 
   sum_same : (A + B) * L * 1 ≡ (u + v) * C
   sum_same = rw (mul-one, add-mul A B L, add-mul u v C, a, b)
 
-  difference-same : (A - B) * L * 1 ≡ (u - v) * C
-  difference-same = rw (mul-one, mul_comm (A - B) L, mul_comm (u - v) C, mul-sub L A B, mul-sub C u v, mul_comm L A, mul_comm L B, mul_comm C u, mul_comm C v, a, b)
+  difference_same : (A - B) * L * 1 ≡ (u - v) * C
+  difference_same = rw (mul-one, mul_comm (A - B) L, mul_comm (u - v) C, mul-sub L A B, mul-sub C u v, mul_comm L A, mul_comm L B, mul_comm C u, mul_comm C v, a, b)
 
 sum_bits_lem : (s : Bool) (A : ℕ) (t : Bool) (B C u v : ℕ) → 0 < C → A * L ≡ u * C → B * L ≡ v * C → to_bits f (Ieee.sum f s A t B C) ≡ rounded (exact_sum s u t v)
 unfolding Ieee.sum
@@ -59,9 +59,9 @@ sum_bits_lem s A t B C u v P a b = rw (ltb_same A B C u v P a b, ltb_same B A C 
     go : (k x r : Bool)
         → to_bits f (cond k (round f s (A + B) C) (cond x (round f t (B - A) C) (round f r (A - B) C)))
         ≡ rounded (cond k (exactly s (u + v) 1) (cond x (exactly t (v - u) 1) (exactly r (u - v) 1)))
-    go true x r = rounded-same s (A + B) C (u + v) 1 P (le_refl 1) (sum_same A B C u v P a b)
-    go false true r = rounded-same t (B - A) C (v - u) 1 P (le_refl 1) (difference-same B A C v u P b a)
-    go false false r = rounded-same r (A - B) C (u - v) 1 P (le_refl 1) (difference-same A B C u v P a b)
+    go true x r = rounded_same s (A + B) C (u + v) 1 P (le_refl 1) (sum_same A B C u v P a b)
+    go false true r = rounded_same t (B - A) C (v - u) 1 P (le_refl 1) (difference_same B A C v u P b a)
+    go false false r = rounded_same r (A - B) C (u - v) 1 P (le_refl 1) (difference_same A B C u v P a b)
 
 add_finite : (s : Bool) (m : ℕ) (e : ℤ) (t : Bool) (n : ℕ) (d : ℤ) (u v : ℕ) → m * up e * L ≡ u * down e → n * up d * L ≡ v * down d → to_bits f (add f (fin s m e) (fin t n d)) ≡ rounded (exact_sum s u t v)
 unfolding add
@@ -70,21 +70,21 @@ add_finite s m e t n d u v a b =
     (mul_right_comm (m * up e) (down d) L ∙ ap (λ (z : ℕ). z * down d) a ∙ mul_assoc u (down e) (down d))
     (mul_right_comm (n * up d) (down e) L ∙ ap (λ (z : ℕ). z * down e) b ∙ mul_assoc v (down d) (down e) ∙ ap (λ (z : ℕ). v * z) (mul_comm (down d) (down e)))
 
-sum-means : {p q : Value} {x y : Float} → Means p x → Means q y → to_bits f (add f x y) ≡ sum p q
+sum_means : {p q : Value} {x y : Float} → Means p x → Means q y → to_bits f (add f x y) ≡ sum p q
 unfolding add sum
-sum-means not_number k = nan_bits
-sum-means (endless s) not_number = nan_bits
-sum-means (endless s) (endless t) = cond_bits (beq s t) (inf s) nan ∙ rw (infinite_bits s, nan_bits)
-sum-means (endless s) (number t v n d b) = infinite_bits s
-sum-means (number s u m e a) not_number = nan_bits
-sum-means (number s u m e a) (endless t) = infinite_bits t
-sum-means (number s u m e a) (number t v n d b) = add_finite s m e t n d u v a b
+sum_means not_number k = nan_bits
+sum_means (endless s) not_number = nan_bits
+sum_means (endless s) (endless t) = cond_bits (beq s t) (inf s) nan ∙ rw (infinite_bits s, nan_bits)
+sum_means (endless s) (number t v n d b) = infinite_bits s
+sum_means (number s u m e a) not_number = nan_bits
+sum_means (number s u m e a) (endless t) = infinite_bits t
+sum_means (number s u m e a) (number t v n d b) = add_finite s m e t n d u v a b
 
-opposite-means : {q : Value} {y : Float} → Means q y → Means (opposite q) (neg y)
+opposite_means : {q : Value} {y : Float} → Means q y → Means (opposite q) (neg y)
 unfolding opposite neg
-opposite-means not_number = not_number
-opposite-means (endless t) = endless (not t)
-opposite-means (number t v n d b) = number (not t) v n d b
+opposite_means not_number = not_number
+opposite_means (endless t) = endless (not t)
+opposite_means (number t v n d b) = number (not t) v n d b
 
 -- ---- products
 eqb_same : (n v : ℕ) (d : ℤ) → n * up d * L ≡ v * down d → eqb n 0 ≡ eqb v 0
@@ -98,7 +98,7 @@ nan_or_inf n v d s b = rw (eqb_same n v d b) (cond_bits (eqb v 0) nan (inf s) �
 
 mul_finite : (s : Bool) (m : ℕ) (e : ℤ) (t : Bool) (n : ℕ) (d : ℤ) (u v : ℕ) → m * up e * L ≡ u * down e → n * up d * L ≡ v * down d → to_bits f (mul f (fin s m e) (fin t n d)) ≡ rounded (exact_product s u t v)
 unfolding mul
-mul_finite s m e t n d u v a b = rounded-same (unlike s t) (m * up e * (n * up d)) (down e * down d) (u * v) L (mul-pos (down_pos e) (down_pos d)) (pow_pos 1074) (cross (m * up e) (n * up d) (down e) (down d) a b)
+mul_finite s m e t n d u v a b = rounded_same (unlike s t) (m * up e * (n * up d)) (down e * down d) (u * v) L (mul-pos (down_pos e) (down_pos d)) (pow_pos 1074) (cross (m * up e) (n * up d) (down e) (down d) a b)
   where
     cross : (X Y E D : ℕ) → X * L ≡ u * E → Y * L ≡ v * D → X * Y * L * L ≡ u * v * (E * D)
     cross X Y E D a b = regroup X Y L ∙ ap (λ (z : ℕ). z * (Y * L)) a ∙ ap (λ (z : ℕ). u * E * z) b ∙ inter u E v D
@@ -109,15 +109,15 @@ mul_finite s m e t n d u v a b = rounded-same (unlike s t) (m * up e * (n * up d
         inter : (u E v D : ℕ) → u * E * (v * D) ≡ u * v * (E * D)
         inter u E v D = simp (mul_assoc, mul_left_comm)
 
-product-means : {p q : Value} {x y : Float} → Means p x → Means q y → to_bits f (mul f x y) ≡ product p q
+product_means : {p q : Value} {x y : Float} → Means p x → Means q y → to_bits f (mul f x y) ≡ product p q
 unfolding mul product
-product-means not_number k = nan_bits
-product-means (endless s) not_number = nan_bits
-product-means (endless s) (endless t) = infinite_bits (unlike s t)
-product-means (endless s) (number t v n d b) = nan_or_inf n v d (unlike s t) b
-product-means (number s u m e a) not_number = nan_bits
-product-means (number s u m e a) (endless t) = nan_or_inf m u e (unlike s t) a
-product-means (number s u m e a) (number t v n d b) = mul_finite s m e t n d u v a b
+product_means not_number k = nan_bits
+product_means (endless s) not_number = nan_bits
+product_means (endless s) (endless t) = infinite_bits (unlike s t)
+product_means (endless s) (number t v n d b) = nan_or_inf n v d (unlike s t) b
+product_means (number s u m e a) not_number = nan_bits
+product_means (number s u m e a) (endless t) = nan_or_inf m u e (unlike s t) a
+product_means (number s u m e a) (number t v n d b) = mul_finite s m e t n d u v a b
 
 -- ---- quotients
 div_finite : (s : Bool) (m : ℕ) (e : ℤ) (t : Bool) (n : ℕ) (d : ℤ) (u v : ℕ) → m * up e * L ≡ u * down e → n * up d * L ≡ v * down d
@@ -143,32 +143,32 @@ div_finite s m e t n d u v a b =
 
     go : (z : Bool) → (T (not z) → v ≡ 0 → ⊥) → to_bits f (cond z (cond (eqb m 0) nan (inf (unlike s t))) (round f (unlike s t) (m * up e * down d) (n * up d * down e))) ≡ cond z (cond (eqb u 0) quiet (with_sign (unlike s t) infinity)) (rounded (exact_quotient s u t v))
     go true h = nan_or_inf m u e (unlike s t) a
-    go false h = rounded-same (unlike s t) (m * up e * down d) (n * up d * down e) (u * L) v (mul-pos (mul-pos (n_some (h tt)) (up_pos d)) (down_pos e)) (some v (h tt)) (cross (m * up e) (n * up d) (down e) (down d) a b)
+    go false h = rounded_same (unlike s t) (m * up e * down d) (n * up d * down e) (u * L) v (mul-pos (mul-pos (n_some (h tt)) (up_pos d)) (down_pos e)) (some v (h tt)) (cross (m * up e) (n * up d) (down e) (down d) a b)
 
-quotient-means : {p q : Value} {x y : Float} → Means p x → Means q y → to_bits f (div f x y) ≡ quotient p q
+quotient_means : {p q : Value} {x y : Float} → Means p x → Means q y → to_bits f (div f x y) ≡ quotient p q
 unfolding div quotient
-quotient-means not_number k = nan_bits
-quotient-means (endless s) not_number = nan_bits
-quotient-means (endless s) (endless t) = nan_bits
-quotient-means (endless s) (number t v n d b) = infinite_bits (unlike s t)
-quotient-means (number s u m e a) not_number = nan_bits
-quotient-means (number s u m e a) (endless t) = zero_bits (unlike s t)
-quotient-means (number s u m e a) (number t v n d b) = div_finite s m e t n d u v a b
+quotient_means not_number k = nan_bits
+quotient_means (endless s) not_number = nan_bits
+quotient_means (endless s) (endless t) = nan_bits
+quotient_means (endless s) (number t v n d b) = infinite_bits (unlike s t)
+quotient_means (number s u m e a) not_number = nan_bits
+quotient_means (number s u m e a) (endless t) = zero_bits (unlike s t)
+quotient_means (number s u m e a) (number t v n d b) = div_finite s m e t n d u v a b
 
 -- ---- the operations on patterns
 module _ (a b : ℕ) {x y : Float} (p : x ≡ of_bits f a) (q : y ≡ of_bits f b) where
   pub sum_of : to_bits f (add f x y) ≡ sum_bits a b
   unfolding sum_bits
-  sum_of = sum-means (read a p) (read b q)
+  sum_of = sum_means (read a p) (read b q)
 
   pub difference_of : to_bits f (sub f x y) ≡ difference_bits a b
   unfolding sub difference_bits
-  difference_of = sum-means (read a p) (opposite-means (read b q))
+  difference_of = sum_means (read a p) (opposite_means (read b q))
 
   pub product_of : to_bits f (mul f x y) ≡ product_bits a b
   unfolding product_bits
-  product_of = product-means (read a p) (read b q)
+  product_of = product_means (read a p) (read b q)
 
   pub quotient_of : to_bits f (div f x y) ≡ quotient_bits a b
   unfolding quotient_bits
-  quotient_of = quotient-means (read a p) (read b q)
+  quotient_of = quotient_means (read a p) (read b q)

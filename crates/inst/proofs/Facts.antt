@@ -20,6 +20,6 @@ module _ (image : List ℕ) (i : Inst) (w : well_formed image i ≡ true) where
   pub typ_byte : i.typ ≤ 255
   typ_byte = by_typ (leb i.typ 255) refl
 
-  pub name-inside : form_of i.typ ≡ name → i.start + i.len ≤ length image
+  pub name_inside : form_of i.typ ≡ name → i.start + i.len ≤ length image
   unfolding well_formed fits name_in
-  name-inside e = leb-true _ _ (and_left _ _ (and_right (eqb i.val 0) _ (rw e at w)))
+  name_inside e = leb-true _ _ (and_left _ _ (and_right (eqb i.val 0) _ (rw e at w)))

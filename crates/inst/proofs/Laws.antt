@@ -69,13 +69,13 @@ pub not_form : (op n : ℕ) → n ≡ letter_of (form_of op) → (n ≡ 45 → �
 not_form op n e p q r s = form_back (form_of op) ∙ ap form_at (sym e) ∙ other_form n p q r s
 
 -- one element more
-pub drop-next : (s : List ℕ) (i : ℕ) → i < length s → drop i s ≡ get_or s i 0 ∷ drop (i + 1) s
-drop-next s i h = rw add-one (drop-cons s i 0 h)
+pub drop_next : (s : List ℕ) (i : ℕ) → i < length s → drop i s ≡ get_or s i 0 ∷ drop (i + 1) s
+drop_next s i h = rw add-one (drop-cons s i 0 h)
 
 -- what is left of a name decides
-pub name-next : (s : List ℕ) (i : ℕ) → i < length s → name_ok (drop i s) ≡ (ltb (get_or s i 0) 128 && name_ok (drop (i + 1) s))
+pub name_next : (s : List ℕ) (i : ℕ) → i < length s → name_ok (drop i s) ≡ (ltb (get_or s i 0) 128 && name_ok (drop (i + 1) s))
 unfolding name_ok
-name-next s i h = rw (drop-next s i h)
+name_next s i h = rw (drop_next s i h)
 
 pub name_end : (s : List ℕ) (i : ℕ) → length s ≤ i → name_ok (drop i s) ≡ true
 unfolding name_ok

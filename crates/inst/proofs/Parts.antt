@@ -8,9 +8,9 @@ use lib.ListN.{length, take, drop, length-drop, take-append-drop, drop_of_length
 use lib.Seq.{sets, sets-eq, length-take-le, drop-append-le, drop-drop}
 
 -- the part from i up to e of b was lent, and came back as ys: with vs stored at its front
-pub lent-part : {A : Type 0} (b ys vs : List A) (i e : ℕ) → i + length vs ≤ e → e ≤ length b → ys ≡ sets (take (e - i) (drop i b)) 0 vs
+pub lent_part : {A : Type 0} (b ys vs : List A) (i e : ℕ) → i + length vs ≤ e → e ≤ length b → ys ≡ sets (take (e - i) (drop i b)) 0 vs
     → take i b ++ (ys ++ drop (e - i) (drop i b)) ≡ sets b i vs
-lent-part {A} b ys vs i e h l q =
+lent_part {A} b ys vs i e h l q =
     let x = drop i b in
     let n = e - i in
     let k = length vs in
@@ -23,12 +23,12 @@ lent-part {A} b ys vs i e h l q =
     ∙ sym (sets-eq vs b i (omega arith) ∙ append_assoc (take i b) vs (drop (i + k) b))
 
 -- all of it was written
-pub lent-whole : {A : Type 0} (b ys : List A) (i e : ℕ) → i ≤ e → e ≤ length b → length ys ≡ e - i → take i b ++ (ys ++ drop (e - i) (drop i b)) ≡ sets b i ys
-lent-whole {A} b ys i e h l q =
+pub lent_whole : {A : Type 0} (b ys : List A) (i e : ℕ) → i ≤ e → e ≤ length b → length ys ≡ e - i → take i b ++ (ys ++ drop (e - i) (drop i b)) ≡ sets b i ys
+lent_whole {A} b ys i e h l q =
     let k : i + (e - i) ≡ i + length ys = omega arith in
     ap (λ (y : List A). take i b ++ (ys ++ y)) (drop-drop (e - i) i b ∙ ap (λ (n : ℕ). drop n b) k)
     ∙ sym (sets-eq ys b i (omega arith) ∙ append_assoc (take i b) ys (drop (i + length ys) b))
 
 -- stores over all of a slice
-pub sets-whole : {A : Type 0} (b vs : List A) → length vs ≡ length b → sets b 0 vs ≡ vs
-sets-whole b vs e = sets-eq vs b 0 (omega arith) ∙ ap (λ y. vs ++ y) (drop_of_length-le b {i = 0 + length vs} (omega arith)) ∙ append-nil vs
+pub sets_whole : {A : Type 0} (b vs : List A) → length vs ≡ length b → sets b 0 vs ≡ vs
+sets_whole b vs e = sets-eq vs b 0 (omega arith) ∙ ap (λ y. vs ++ y) (drop_of_length-le b {i = 0 + length vs} (omega arith)) ∙ append-nil vs

@@ -18,7 +18,7 @@ use Rattle.inst_decode.specs.Decode.{Answer, refused, reads, type_of, magnitude,
 pub record ReadIn (image : List ℕ) (at : ℕ) (i : Inst) (size : ℕ) : Type 0 where
   pub moves : 1 ≤ size
   pub inside : at + size ≤ length image
-  pub name-inside : i.start + i.len ≤ length image
+  pub name_inside : i.start + i.len ≤ length image
   pub formed : Bytes image → well_formed image i ≡ true
   pub not_idmp : eqb i.typ 27 ≡ false
 
@@ -49,19 +49,19 @@ module _ (image : List ℕ) (at op : ℕ) where
       (λ _. by_test (Told image at) (ltb (length image) (at + 9 + len)) _ _ (λ _. (lit≤ tt, lit≤ tt))
       (λ k. let l = ltb-false (length image) (at + 9 + len) k in
       by_test (Told image at) (name_ok (part image (at + 9) len)) _ _
-      (λ g. record { moves = omega arith; inside = omega arith; name-inside = omega arith; formed = λ _. simp (e, le-leb _ _ l, g); not_idmp = not_one op name e (λ z. omega arith) })
+      (λ g. record { moves = omega arith; inside = omega arith; name_inside = omega arith; formed = λ _. simp (e, le-leb _ _ l, g); not_idmp = not_one op name e (λ z. omega arith) })
       (λ _. (lit≤ tt, lit≤ tt))))
 
   operand_told : (f : Form) → form_of op ≡ f → at < length image → Told image at (read_operand image at op f)
   unfolding read_operand well_formed fits letter_of
   operand_told none e h =
-      record { moves = lit≤ tt; inside = omega arith; name-inside = omega arith; formed = λ _. simp e; not_idmp = not_one op none e (λ z. omega arith) }
+      record { moves = lit≤ tt; inside = omega arith; name_inside = omega arith; formed = λ _. simp e; not_idmp = not_one op none e (λ z. omega arith) }
   operand_told eight e h =
       by_test (Told image at) (ltb (length image) (at + 9)) _ _ (λ _. (lit≤ tt, lit≤ tt))
-      (λ k. record { moves = lit≤ tt; inside = ltb-false _ _ k; name-inside = omega arith; formed = λ _. simp e; not_idmp = not_one op eight e (λ z. omega arith) })
+      (λ k. record { moves = lit≤ tt; inside = ltb-false _ _ k; name_inside = omega arith; formed = λ _. simp e; not_idmp = not_one op eight e (λ z. omega arith) })
   operand_told one e h =
       by_test (Told image at) (ltb (length image) (at + 2)) _ _ (λ _. (lit≤ tt, lit≤ tt))
-      (λ k. record { moves = lit≤ tt; inside = ltb-false _ _ k; name-inside = omega arith; formed = λ b. let l : get_or image (at + 1) 0 ≤ 255 = omega (arith, b (at + 1)) in simp ((read_as op e).0, le-leb _ _ l); not_idmp = (read_as op e).1 })
+      (λ k. record { moves = lit≤ tt; inside = ltb-false _ _ k; name_inside = omega arith; formed = λ b. let l : get_or image (at + 1) 0 ≤ 255 = omega (arith, b (at + 1)) in simp ((read_as op e).0, le-leb _ _ l); not_idmp = (read_as op e).1 })
   operand_told name e h =
       by_test (Told image at) (ltb (length image) (at + 9)) _ _ (λ _. (lit≤ tt, lit≤ tt))
       (λ k. named_told (word image (at + 1)) e (ltb-false _ _ k))

@@ -24,9 +24,9 @@ part_length : (image : List ℕ) (start len : ℕ) → start + len ≤ length im
 part_length image start len h = rw (length-slice start (start + len) image h) (omega arith)
 
 -- no encoding is empty
-pub size-some : (image : List ℕ) (i : Inst) → 0 < length (as_bytes image i)
+pub size_some : (image : List ℕ) (i : Inst) → 0 < length (as_bytes image i)
 unfolding as_bytes
-size-some image i = omega arith
+size_some image i = omega arith
 
 module _ (image : List ℕ) (i : Inst) where
   Sized : Form → Type 0

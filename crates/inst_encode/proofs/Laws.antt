@@ -9,7 +9,7 @@ use lib.Seq.{sets}
 use Rattle.inst.specs.declared.Inst.{Inst}
 use Rattle.inst.specs.Forms.{Form, none, eight, one, name, undefined, form_of, letter_of}
 use Rattle.inst.proofs.Laws.{sets_more}
-use Rattle.inst.proofs.Parts.{lent-whole}
+use Rattle.inst.proofs.Parts.{lent_whole}
 use Rattle.inst_encode.specs.Encode.{bytes_of, operand_bytes, as_bytes}
 
 -- what is left of a number's bytes
@@ -32,7 +32,7 @@ stored_both l l₁ l₂ vs ws at n e p q = q ∙ rw (p, ← e) (sets_more vs l w
 -- stores, and behind them a copy into the rest of the slice, which was lent for it
 pub stored_copied : (l b xs vs : List ℕ) (at n e : ℕ) → length vs ≡ n → b ≡ sets l at vs → at + n ≤ e → e ≤ length b → length xs ≡ e - (at + n)
     → take (at + n) b ++ (xs ++ drop (e - (at + n)) (drop (at + n) b)) ≡ sets l at (vs ++ xs)
-stored_copied l b xs vs at n e h p k m q = stored_both l b _ vs xs at n h p (lent-whole b xs (at + n) e k m q)
+stored_copied l b xs vs at n e h p k m q = stored_both l b _ vs xs at n h p (lent_whole b xs (at + n) e k m q)
 
 -- the first byte, then the operand
 pub stored_first : (out out' bytes ops : List ℕ) (at op : ℕ) → bytes ≡ op ∷ ops → out' ≡ sets (set out at op) (at + 1) ops → out' ≡ sets out at bytes

@@ -25,8 +25,8 @@ fn put_number(out: &mut [u8], at: usize, size: usize, number: u64)
 
 // A name's length field and its bytes.
 fn put_named(out: &mut [u8], at: usize, image: &[u8], start: u64, len: u64)
-    requires len_in_bounds { start + len ≤ length image.now }
-    requires len_in_bounds_2 { at + 8 + len ≤ length out.old }
+    requires name_inside { start + len ≤ length image.now }
+    requires room { at + 8 + len ≤ length out.old }
     ensures { out.new ≡ sets out.old at (bytes_of 8 len ++ part image.now start len) }
 {
     put_number(out, at, 8, len);

@@ -25,19 +25,19 @@ abs_quotient (pos a) (negsuc b) = omega (arith, abs_neg (pos (a / suc b)), div-l
 abs_quotient (negsuc a) (pos b) = omega (arith, abs_neg (pos (suc a / b)), div-le_self (suc a) b)
 abs_quotient (negsuc a) (negsuc b) = omega (arith, div-le_self (suc a) (suc b))
 
-pub kept-value : (c : ℕ) {x : ℤ} → x ≡ value c → kept x ≡ value c
-kept-value c e = rw e (kept_is (value c) (omega (arith, mag_abs (value c), abs_value c)))
+pub kept_value : (c : ℕ) {x : ℤ} → x ≡ value c → kept x ≡ value c
+kept_value c e = rw e (kept_is (value c) (omega (arith, mag_abs (value c), abs_value c)))
 
 -- an operation whose result isn't larger than its operands together, on the values of two cells, or on one and a literal
 module _ (op : ℤ → ℤ → ℤ) (bound : (x y : ℤ) → nat_abs (op x y) ≤ nat_abs x + nat_abs y) where
   pub of_cells : (a b : ℕ) {x y : ℤ} → x ≡ value a → y ≡ value b → Exact op (kept x) (kept y) (op (value a) (value b))
   of_cells a b ex ey =
-      exact op (value a) (value b) (kept-value a ex) (kept-value b ey) refl
+      exact op (value a) (value b) (kept_value a ex) (kept_value b ey) refl
       (omega (arith, mag_abs (op (value a) (value b)), bound (value a) (value b), abs_value a, abs_value b))
 
   pub of_cell : (a : ℕ) (v : ℤ) {x : ℤ} → nat_abs v < 2 ^ 48 → x ≡ value a → Exact op (kept x) v (op (value a) v)
   of_cell a v h ex =
-      exact op (value a) v (kept-value a ex) refl refl
+      exact op (value a) v (kept_value a ex) refl refl
       (omega (arith, mag_abs (op (value a) v), bound (value a) v, abs_value a))
 
 pub bits_positive : (z : ℤ) → mag z < 2 ^ 63 → 0 < nat_abs z → 0 < of_z w64 z

@@ -27,8 +27,8 @@ module _ (P : ℕ → ℕ → ℕ → Type 0) (keys targets : List ℕ) (sized :
       P (get_or (set keys at op) i 0) (get_or (set targets at t) i 0) i
   both l₀ t k i true q l u =
       let e = eqb-true i at q in
-      let g : at < length keys = rw sized.keys-long l₀ in
-      let h : at < length targets = rw sized.targets-long l₀ in
+      let g : at < length keys = rw sized.keys_long l₀ in
+      let h : at < length targets = rw sized.targets_long l₀ in
       rw e (rw (get_or-set_same keys at op 0 g, get_or-set_same targets at t 0 h) k)
   both l₀ t k i false q l u =
       let o = get_or-set_other keys at i op 0 (eqb-false i at q) in
@@ -70,14 +70,14 @@ module _ {keys targets : List ℕ} {at op : ℕ} (sized : Sized keys targets) {k
   keeps_jump_sized IllChain q = rw (q.are.0, q.are.1) sized
   keeps_jump_sized (Target t) q =
       let b = ltb at known_limit && ltb t 65536 in
-      record { keys-long = rw q.are.0 (same_length b keys at op ∙ sized.keys-long); targets-long = rw q.are.1 (same_length b targets at t ∙ sized.targets-long) }
+      record { keys_long = rw q.are.0 (same_length b keys at op ∙ sized.keys_long); targets_long = rw q.are.1 (same_length b targets at t ∙ sized.targets_long) }
 
-  pub keeps-jump : (found : LookedUp) → KeepsJump keys targets at op found keys' targets' → (P : ℕ → ℕ → ℕ → Type 0) → Entries P keys targets →
+  pub keeps_jump : (found : LookedUp) → KeepsJump keys targets at op found keys' targets' → (P : ℕ → ℕ → ℕ → Type 0) → Entries P keys targets →
       IfTarget found (λ (t : ℕ). P op t at) → Entries P keys' targets'
-  keeps-jump NotAsked q P entries k = rw (q.are.0, q.are.1) entries
-  keeps-jump NoLabel q P entries k = rw (q.are.0, q.are.1) entries
-  keeps-jump IllChain q P entries k = rw (q.are.0, q.are.1) entries
-  keeps-jump (Target t) q P entries k = rw (q.are.0, q.are.1) (both_if P keys targets sized entries at op t k (ltb at known_limit && ltb t 65536) refl)
+  keeps_jump NotAsked q P entries k = rw (q.are.0, q.are.1) entries
+  keeps_jump NoLabel q P entries k = rw (q.are.0, q.are.1) entries
+  keeps_jump IllChain q P entries k = rw (q.are.0, q.are.1) entries
+  keeps_jump (Target t) q P entries k = rw (q.are.0, q.are.1) (both_if P keys targets sized entries at op t k (ltb at known_limit && ltb t 65536) refl)
 
 -- what is plain
 module _ (image xs : List ℕ) (i : ℕ) where
@@ -86,9 +86,9 @@ module _ (image xs : List ℕ) (i : ℕ) where
   plain_is b e = rw e refl
 
   module _ (h : is_plain_at image xs i ≡ true) where
-    pub plain-formed : well_formed image (inst_of xs i) ≡ true
+    pub plain_formed : well_formed image (inst_of xs i) ≡ true
     unfolding is_plain_at
-    plain-formed = and_right (not (looks_up (number_at xs (i * 4)))) _ h
+    plain_formed = and_right (not (looks_up (number_at xs (i * 4)))) _ h
 
     no_lookup : (b : Bool) → not b ≡ true → b ≡ false
     no_lookup true e = sym e
@@ -123,11 +123,11 @@ module _ {image xs : List ℕ} {count : ℕ} {keys₀ : List ℕ} where
     learns_if false e = q
 
     pub learns_more : {keys' : List ℕ} → KeepsPlain image xs keys at keys' → Learns image xs count keys₀ keys'
-    learns_more k = rw k.keys-are (learns_if (is_plain_at image xs at && ltb at known_limit) refl)
+    learns_more k = rw k.keys_are (learns_if (is_plain_at image xs at && ltb at known_limit) refl)
 
   module _ {keys' : List ℕ} (targets : List ℕ) (q : Learns image xs count keys₀ keys') where
     pub learns_sized : Sized keys₀ targets → Sized keys' targets
-    learns_sized sized = record { keys-long = q.long ∙ sized.keys-long; targets-long = sized.targets-long }
+    learns_sized sized = record { keys_long = q.long ∙ sized.keys_long; targets_long = sized.targets_long }
 
     pub learns : (P : ℕ → ℕ → ℕ → Type 0) → Entries P keys₀ targets → ((i t : ℕ) → Learnt image xs count (get_or keys' i 0) i → P (number_at xs (i * 4)) t i) →
         Entries P keys' targets

@@ -8,7 +8,7 @@ use Rattle.tables.specs.Tables.{number_at, inst_of}
 
 -- the first byte of the instruction at an index, if the array has a slot for it
 pub record Keeps (keys : List ℕ) (i op : ℕ) (keys' : List ℕ) : Type 0 where
-  pub keys-are : keys' ≡ cond (ltb i known_limit) (set keys i op) keys
+  pub keys_are : keys' ≡ cond (ltb i known_limit) (set keys i op) keys
 
 -- and the target that was found, if it fits 16 bits
 abbrev pub KeepsTarget : (keys targets : List ℕ) → ℕ → ℕ → LookedUp → (keys' targets' : List ℕ) → Type 0
@@ -27,7 +27,7 @@ unfoldable pub is_plain_at : List ℕ → List ℕ → ℕ → Bool
 is_plain_at image xs i = not (looks_up (number_at xs (i * 4))) && well_formed image (inst_of xs i)
 
 pub record KeepsPlain (image xs keys : List ℕ) (i : ℕ) (keys' : List ℕ) : Type 0 where
-  pub keys-are : keys' ≡ cond (is_plain_at image xs i && ltb i known_limit) (set keys i (number_at xs (i * 4))) keys
+  pub keys_are : keys' ≡ cond (is_plain_at image xs i && ltb i known_limit) (set keys i (number_at xs (i * 4))) keys
 
 -- each key is as before, or the first byte of such an instruction below the count
 pub record Learnt (image xs : List ℕ) (count key i : ℕ) : Type 0 where

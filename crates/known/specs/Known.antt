@@ -40,5 +40,5 @@ Listed xs keys targets = Entries (λ (key t i : ℕ). i * 32 + 31 < length xs) k
 
 -- the two arrays have their length
 pub record Sized (keys targets : List ℕ) : Type 0 where
-  pub keys-long : length keys ≡ known_limit
-  pub targets-long : length targets ≡ known_limit
+  pub keys_long : length keys ≡ known_limit
+  pub targets_long : length targets ≡ known_limit

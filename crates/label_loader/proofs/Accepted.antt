@@ -5,7 +5,7 @@ use mathlib.Core.List.{List}
 use native.Mathlib.Omega.{arith}
 use Rattle.machine.specs.declared.Label.{Label}
 use Rattle.machine.specs.Load.{Loaded, Load, rejects, accepts}
-use Rattle.machine.proofs.Refusals.{Numbered, load-numbered}
+use Rattle.machine.proofs.Refusals.{Numbered, load_numbered}
 use Rattle.tables.specs.Tables.{insts_of}
 use Rattle.label_loader.specs.Loading.{LoadCall, load_of, loaded_by, load_call}
 
@@ -15,7 +15,7 @@ unfolding loaded_by
 accepted_by (rejects k) insts labels r n e z = absurd (omega (arith, ap (λ (a : LoadCall). a.number) e))
 accepted_by (accepts l) insts labels r n e z = (l, refl, e)
 
-pub load-accepted : (image insts : List ℕ) (labels : List Label) (r : LoadCall) → load_call image insts labels ≡ r → r.number ≡ 0
+pub load_accepted : (image insts : List ℕ) (labels : List Label) (r : LoadCall) → load_call image insts labels ≡ r → r.number ≡ 0
     → (l : Loaded) × (load_of image insts labels ≡ accepts l) × (loaded_by (accepts l) insts labels ≡ r)
 unfolding load_call
-load-accepted image insts labels r e z = accepted_by (load_of image insts labels) insts labels r (load-numbered image (insts_of insts) labels) e z
+load_accepted image insts labels r e z = accepted_by (load_of image insts labels) insts labels r (load_numbered image (insts_of insts) labels) e z

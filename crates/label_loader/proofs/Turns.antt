@@ -32,11 +32,11 @@ pub linked_long : (labels : List Label) (p : Linking) → length (linked_at labe
 linked_long labels p = length-set (set labels p.index (new labels p)) 0 (head p.index) ∙ length-set labels p.index (new labels p)
 
 -- a label more, or the head
-label-more : (xs ys : List Label) (p : Linking) (ls : List Label) → 0 < length xs → p.index ≡ length ls → ys ≡ sets xs 0 ls → linked_at ys p ≡ sets xs 0 (linked_on p ls)
+label_more : (xs ys : List Label) (p : Linking) (ls : List Label) → 0 < length xs → p.index ≡ length ls → ys ≡ sets xs 0 ls → linked_at ys p ≡ sets xs 0 (linked_on p ls)
 unfolding linked_on linked
-label-more [] ys p ls z k e = absurd (omega arith)
-label-more (x ∷ xs) ys p [] z k e = rw (k, e)
-label-more (x ∷ xs) ys p (h ∷ ls) z k e =
+label_more [] ys p ls z k e = absurd (omega arith)
+label_more (x ∷ xs) ys p [] z k e = rw (k, e)
+label_more (x ∷ xs) ys p (h ∷ ls) z k e =
     let new : Label = record { start = p.start; len = p.len; target = p.target; next = h.next } in
     let s : sets (sets xs 0 ls) (length ls) (new ∷ []) ≡ sets xs 0 (ls ++ (new ∷ [])) = ap (λ (n : ℕ). sets (sets xs 0 ls) n (new ∷ [])) (sym (zero-add (length ls))) ∙ sets_more ls xs (new ∷ []) 0 in
     rw (k, e ∙ sets_behind h xs ls 0) (ap (λ (l : List Label). head (suc (length ls)) ∷ l) s ∙ sym (sets_behind (head (suc (length ls))) xs (ls ++ (new ∷ [])) 0))
@@ -62,25 +62,25 @@ module _ (image insts₀ : List ℕ) (labels₀ : List Label) where
     module _ (p : Linking) (labels : List Label) (u : Underway p labels) (on : p.on ≡ true) where
       -- the label at hand has its place, and the instructions have theirs
       pub inside : p.index < length labels
-      inside = let k = pass.index-inside image insts₀ labels₀ labels₀ (λ ls. ls) p labels u on in let n = u.labels-long in omega (arith, k, n)
+      inside = let k = pass.index_inside image insts₀ labels₀ labels₀ (λ ls. ls) p labels u on in let n = u.labels_long in omega (arith, k, n)
 
       pub fit : Covers insts p
-      fit = pass.covers image insts₀ labels₀ labels₀ (λ ls. ls) p labels u on insts f.insts-are
+      fit = pass.covers image insts₀ labels₀ labels₀ (λ ls. ls) p labels u on insts f.insts_are
 
       pub underway_on : (q : Linking) → q ≡ next_link p p.passed (drop p.passed (take p.count (insts_of insts))) → Underway q (linked_at labels p)
       underway_on q e =
-          let z : 0 < length labels₀ = let a = inside in let b = u.labels-long in omega (arith, a, b) in
-          pass.underway_on image insts₀ labels₀ labels₀ (λ ls. ls) p labels u on insts f.insts-are q (linked_at labels p)
-          (λ ls n k. label-more labels₀ labels p ls z n k) e (linked_long labels p)
+          let z : 0 < length labels₀ = let a = inside in let b = u.labels_long in omega (arith, a, b) in
+          pass.underway_on image insts₀ labels₀ labels₀ (λ ls. ls) p labels u on insts f.insts_are q (linked_at labels p)
+          (λ ls n k. label_more labels₀ labels p ls z n k) e (linked_long labels p)
 
-  leaves-are : (y : Load) → pass.leaves image insts₀ labels₀ labels₀ (λ ls. ls) y ≡ labels_after y labels₀
+  leaves_are : (y : Load) → pass.leaves image insts₀ labels₀ labels₀ (λ ls. ls) y ≡ labels_after y labels₀
   unfolding pass.leaves labels_after
-  leaves-are (rejects n) = refl
-  leaves-are (accepts l) = refl
+  leaves_are (rejects n) = refl
+  leaves_are (accepts l) = refl
 
   pub over : (r : Checked) (insts : List ℕ) → LoadInsts (load_of image insts₀ labels₀) insts₀ r insts → (p : Linking) (labels : List Label) → Underway p labels → p.on ≡ false
       → (a : LoadAnswer) → a ≡ numbers_of r.loading → load_call image insts₀ labels₀ ≡ call a insts labels
   unfolding load_call
   over r insts f p labels u o a e =
       let k = pass.underway_ends image insts₀ labels₀ labels₀ (λ ls. ls) p labels o u in
-      rw (e, f.answers, f.insts-are, k ∙ leaves-are (load_of image insts₀ labels₀)) (loaded_by_lem (load_of image insts₀ labels₀) insts₀ labels₀)
+      rw (e, f.answers, f.insts_are, k ∙ leaves_are (load_of image insts₀ labels₀)) (loaded_by_lem (load_of image insts₀ labels₀) insts₀ labels₀)

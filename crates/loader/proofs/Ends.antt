@@ -25,9 +25,9 @@ was_true true e = refl
 was_true false e = sym e
 
 -- HALT appended, or not
-closed-long : (is : List Inst) → length (closed is) ≡ cond (last_is_halt is) (length is) (length is + 1)
+closed_long : (is : List Inst) → length (closed is) ≡ cond (last_is_halt is) (length is) (length is + 1)
 unfolding closed
-closed-long is = by_halt (last_is_halt is)
+closed_long is = by_halt (last_is_halt is)
   where
     by_halt : (b : Bool) → length (cond b is (is ++ (halt ∷ []))) ≡ cond b (length is) (length is + 1)
     by_halt true = refl
@@ -46,10 +46,10 @@ closed_native is = by_halt (last_is_halt is)
     by_halt false = snoc_native is halt ∙ or_false (any_native is)
 
 -- by the entry
-entered-none : (s : Scan) (e : Entry) → is_found e ≡ false → entered s e ≡ rejects 7
+entered_none : (s : Scan) (e : Entry) → is_found e ≡ false → entered s e ≡ rejects 7
 unfolding is_found entered
-entered-none s no_entry h = refl
-entered-none s (entry t) h = absurd (let z : ◌≡◌ {A = ℕ} 0 1 = cc in omega arith)
+entered_none s no_entry h = refl
+entered_none s (entry t) h = absurd (let z : ◌≡◌ {A = ℕ} 0 1 = cc in omega arith)
 
 entered_at : (s : Scan) (e : Entry) → is_found e ≡ true → entered s e ≡ checked (record { insts = closed s.insts; labels = s.labels; ip = pointer e })
 unfolding is_found pointer entered
@@ -72,7 +72,7 @@ module _ (image : List ℕ) (c : Counts) (s : Scan) (e : c ≡ counts_of image s
 
   long_is : cond c.halt c.insts (c.insts + 1) ≡ length (closed s.insts)
   unfolding counts_of
-  long_is = ap (λ (x : Counts). cond x.halt x.insts (x.insts + 1)) e ∙ sym (closed-long s.insts)
+  long_is = ap (λ (x : Counts). cond x.halt x.insts (x.insts + 1)) e ∙ sym (closed_long s.insts)
 
   labels_is : c.labels ≡ length s.labels
   unfolding counts_of
@@ -80,7 +80,7 @@ module _ (image : List ℕ) (c : Counts) (s : Scan) (e : c ≡ counts_of image s
 
   pub no_entry_lem : c.found ≡ false → rejects 7 ≡ finished image (goes s)
   unfolding finished
-  no_entry_lem h = sym (entered-none s _ (sym found_is ∙ h))
+  no_entry_lem h = sym (entered_none s _ (sym found_is ∙ h))
 
   module _ (h : c.found ≡ true) (count : ℕ) (k : count ≡ cond c.halt c.insts (c.insts + 1)) where
     there : finished image (goes s) ≡ checked (record { insts = closed s.insts; labels = s.labels; ip = pointer (entry_of image s) })

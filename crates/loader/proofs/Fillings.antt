@@ -16,10 +16,10 @@ use Rattle.machine.specs.Limits.{inst_limit, label_records}
 use Rattle.machine.specs.Load.{is_label, halt, Scan, Scanned, stops, goes, begin, scan_one, closed, Loaded, accepts, loads}
 use Rattle.tables.specs.Tables.{numbers_of, bytes_of, inst_numbers, inst_bytes}
 use Rattle.loader.specs.Loading.{insts_left, Accepts}
-use Rattle.loader.proofs.Rests.{Rest, rest-next, rest_stop, rest_end}
+use Rattle.loader.proofs.Rests.{Rest, rest_next, rest_stop, rest_end}
 use Rattle.machine.proofs.Loads.{never_both, finished_is}
-use Rattle.loader.proofs.Loads.{accepted-rest}
-use Rattle.loader.proofs.Stores.{inst-more, halt-more}
+use Rattle.loader.proofs.Loads.{accepted_rest}
+use Rattle.loader.proofs.Stores.{inst_more, halt_more}
 
 -- where the scan s goes on with the instruction i of this size: the bytes and the instructions that it has then
 unfoldable Took : Scan → Inst → ℕ → Scanned → Type 0
@@ -46,7 +46,7 @@ pub record Reached (image xs : List ℕ) (l : Loaded) (at n : ℕ) (insts : List
 record Further (image : List ℕ) (l : Loaded) (s : Scan) (i : Inst) (size : ℕ) : Type 0 where
   to : Scan
   at_is : to.at ≡ s.at + size
-  insts-are : to.insts ≡ s.insts ++ (i ∷ [])
+  insts_are : to.insts ≡ s.insts ++ (i ∷ [])
   below : length s.insts < inst_limit
   rest : Rest image to (accepts l)
 
@@ -57,7 +57,7 @@ module _ (image xs : List ℕ) where
 
   pub filling_begins : Filling 0 0 xs
   unfolding numbers_of bytes_of
-  filling_begins l a = record { to = begin; at_is = refl; count_is = refl; rest = accepted-rest image l a; has_insts = refl }
+  filling_begins l a = record { to = begin; at_is = refl; count_is = refl; rest = accepted_rest image l a; has_insts = refl }
 
   module _ (at n : ℕ) (insts : List ℕ) (f : Filling at n insts) where
     -- at the image's end
@@ -68,12 +68,12 @@ module _ (image xs : List ℕ) where
         let l = a.loaded in
         let r = f l a.is in
         let k = finished_is image l r.to (rest_end image r.to (accepts l) (rw r.at_is at h) r.rest) in
-        let m : count ≡ length (closed r.to.insts) = a.count_is ∙ ap length k.insts-are in
+        let m : count ≡ length (closed r.to.insts) = a.count_is ∙ ap length k.insts_are in
         rw a.is
         (t
         ∙ ap (λ (m : ℕ). cond (ltb n m) (sets insts (n * 32) (bytes_of (inst_numbers halt))) insts) m
-        ∙ halt-more xs insts r.to.insts n r.count_is r.has_insts
-        ∙ ap (λ (is : List Inst). sets xs 0 (inst_bytes is)) (sym k.insts-are))
+        ∙ halt_more xs insts r.to.insts n r.count_is r.has_insts
+        ∙ ap (λ (is : List Inst). sets xs 0 (inst_bytes is)) (sym k.insts_are))
 
     module _ (h : at < length image) where
       -- a refusal is never met
@@ -91,7 +91,7 @@ module _ (image xs : List ℕ) where
         by_scan l r (stops m) w k = never_both m l (rest_stop image r.to (accepts l) (rw r.at_is at h) m r.rest w)
         by_scan l r (goes t) w k =
             let m = (read_in_lem image at i size e).moves in
-            record { to = t; at_is = k.0; insts-are = k.1; below = k.2; rest = rest-next image r.to (accepts l) (rw r.at_is at h) t r.rest w (omega (arith, m, k.0)) }
+            record { to = t; at_is = k.0; insts_are = k.1; below = k.2; rest = rest_next image r.to (accepts l) (rw r.at_is at h) t r.rest w (omega (arith, m, k.0)) }
 
         further : (l : Loaded) (r : Reached image xs l at n insts) → Further image l r.to i size
         further l r =
@@ -111,7 +111,7 @@ module _ (image xs : List ℕ) where
             record {
               to = k.to;
               at_is = ap (λ (p : ℕ). p + size) r.at_is ∙ sym k.at_is;
-              count_is = omega (arith, r.count_is, more, ap length k.insts-are);
+              count_is = omega (arith, r.count_is, more, ap length k.insts_are);
               rest = k.rest;
-              has_insts = t ∙ inst-more xs insts r.to.insts i n r.count_is r.has_insts ∙ ap (λ is. sets xs 0 (inst_bytes is)) (sym k.insts-are);
+              has_insts = t ∙ inst_more xs insts r.to.insts i n r.count_is r.has_insts ∙ ap (λ is. sets xs 0 (inst_bytes is)) (sym k.insts_are);
             }

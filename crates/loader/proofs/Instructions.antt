@@ -40,9 +40,9 @@ module _ (image : List ℕ) (c : Counts) (s : Scan) (e : c ≡ counts_of image s
   unfolding counts_of
   labels_is = ap (λ (x : Counts). x.labels) e
 
-  pub next-refused : (n : ℕ) → from_bytes image c.at ≡ refused n → Refused n ≡ next_of image (scan_one s (from_bytes image s.at))
+  pub next_refused : (n : ℕ) → from_bytes image c.at ≡ refused n → Refused n ≡ next_of image (scan_one s (from_bytes image s.at))
   unfolding next_of scan_one
-  next-refused n f = simp (← at_is, f)
+  next_refused n f = simp (← at_is, f)
 
   module _ (i : Inst) (size : ℕ) (f : from_bytes image c.at ≡ reads i size) where
     read_is : from_bytes image s.at ≡ reads i size
@@ -57,9 +57,9 @@ module _ (image : List ℕ) (c : Counts) (s : Scan) (e : c ≡ counts_of image s
     next_six h k l =
         simp (read_is, lt-leb inst_limit (length s.insts) (rw insts_is at h), eq-eqb _ _ k, le-leb label_records (length s.labels) (rw labels_is at l))
 
-    pub next-plain : c.insts < inst_limit → (i.typ ≡ 21 → ⊥) → Read (counted c i.typ size) ≡ next_of image (scan_one s (from_bytes image s.at))
+    pub next_plain : c.insts < inst_limit → (i.typ ≡ 21 → ⊥) → Read (counted c i.typ size) ≡ next_of image (scan_one s (from_bytes image s.at))
     unfolding next_of scan_one
-    next-plain h k =
+    next_plain h k =
         simp (read_is, lt-leb inst_limit (length s.insts) (rw insts_is at h), ne_eqb _ _ k, counts_plain, e)
 
     label_kept : 0 < length s.labels
@@ -70,10 +70,10 @@ module _ (image : List ℕ) (c : Counts) (s : Scan) (e : c ≡ counts_of image s
         ap (λ (x : Counts). labelled (counted x i.typ size) (same start_name (part image i.start i.len)) x.insts) e
         ∙ sym (counts_label image s.at s.insts s.labels i size z)
 
-    pub next-label : 0 < length s.labels → c.insts < inst_limit → i.typ ≡ 21 → c.labels < label_records
+    pub next_label : 0 < length s.labels → c.insts < inst_limit → i.typ ≡ 21 → c.labels < label_records
         → Read (labelled (counted c i.typ size) (same start_name (part image i.start i.len)) c.insts) ≡ next_of image (scan_one s (from_bytes image s.at))
     unfolding next_of scan_one
-    next-label z h k l =
+    next_label z h k l =
         simp (read_is, lt-leb inst_limit (length s.insts) (rw insts_is at h), eq-eqb _ _ k, lt-leb label_records (length s.labels) (rw labels_is at l))
         (ap Read (label_kept z))
 

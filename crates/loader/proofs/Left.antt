@@ -4,15 +4,15 @@ use mathlib.Core.Path.{◌≡◌, refl}
 use mathlib.Core.List.{List}
 use Rattle.machine.specs.Load.{Load, rejects, accepts, insts_after, labels_after}
 use Rattle.tables.specs.Tables.{insts_of, labels_of}
-use Rattle.tables.proofs.Laws.{insts-sets, labels-sets}
+use Rattle.tables.proofs.Laws.{insts_sets, labels_sets}
 use Rattle.loader.specs.Loading.{insts_left, labels_left}
 
-pub insts-left : (x : Load) (xs : List ℕ) → insts_of (insts_left x xs) ≡ insts_after x (insts_of xs)
+pub insts_left_lem : (x : Load) (xs : List ℕ) → insts_of (insts_left x xs) ≡ insts_after x (insts_of xs)
 unfolding insts_left insts_after
-insts-left (rejects n) xs = refl
-insts-left (accepts l) xs = insts-sets l.insts xs
+insts_left_lem (rejects n) xs = refl
+insts_left_lem (accepts l) xs = insts_sets l.insts xs
 
-pub labels-left : (x : Load) (xs : List ℕ) → labels_of (labels_left x xs) ≡ labels_after x (labels_of xs)
+pub labels_left_lem : (x : Load) (xs : List ℕ) → labels_of (labels_left x xs) ≡ labels_after x (labels_of xs)
 unfolding labels_left labels_after
-labels-left (rejects n) xs = refl
-labels-left (accepts l) xs = labels-sets l.labels xs
+labels_left_lem (rejects n) xs = refl
+labels_left_lem (accepts l) xs = labels_sets l.labels xs

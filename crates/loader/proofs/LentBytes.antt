@@ -12,8 +12,8 @@ use Rattle.loader.specs.declared.Linking.{Linking}
 use Rattle.loader.specs.declared.Checked.{Checked}
 use Rattle.loader.specs.Loading.{means, insts_left, labels_left, load_of, LoadInsts, FromBinary}
 use Rattle.loader.specs.Linking.{head_link, next_link, linked_at}
-use Rattle.loader.proofs.Loads.{checked-means}
-use Rattle.loader.proofs.Stores.{label-more}
+use Rattle.loader.proofs.Loads.{checked_means}
+use Rattle.loader.proofs.Stores.{label_more}
 use Rattle.loader.proofs.Passing as pass
 
 module _ (image insts₀ labels₀ : List ℕ) where
@@ -28,27 +28,27 @@ module _ (image insts₀ labels₀ : List ℕ) where
   underway_begins r insts f p e = pass.underway_begins image insts₀ (labels_of labels₀) labels₀ label_bytes r f.answers p e refl
 
   module _ (p : Linking) (labels : List ℕ) (u : Underway p labels) (on : p.on ≡ true) where
-    pub index-inside : p.index < length labels / 32
-    index-inside =
-        let a = pass.index-inside image insts₀ (labels_of labels₀) labels₀ label_bytes p labels u on in
+    pub index_inside : p.index < length labels / 32
+    index_inside =
+        let a = pass.index_inside image insts₀ (labels_of labels₀) labels₀ label_bytes p labels u on in
         let b = length_records label labels₀ in
-        let c = u.labels-long in
+        let c = u.labels_long in
         omega (arith, a, b, c)
 
     pub underway_on : (insts : List ℕ) → insts ≡ insts_left given insts₀ → (q : Linking) (labels' : List ℕ) → labels' ≡ linked_at labels p
         → q ≡ next_link p p.passed (drop p.passed (take p.count (insts_of insts))) → length labels' ≡ length labels → Underway q labels'
     underway_on insts i q labels' e f j =
-        let a = index-inside in
-        let b = u.labels-long in
+        let a = index_inside in
+        let b = u.labels_long in
         let z : 32 ≤ length labels₀ = omega (arith, a, b) in
-        pass.underway_on image insts₀ (labels_of labels₀) labels₀ label_bytes p labels u on insts i q labels' (λ ls n h. e ∙ label-more labels₀ labels p ls z n h) f j
+        pass.underway_on image insts₀ (labels_of labels₀) labels₀ label_bytes p labels u on insts i q labels' (λ ls n h. e ∙ label_more labels₀ labels p ls z n h) f j
 
-  leaves-are : (x : Load) → pass.leaves image insts₀ (labels_of labels₀) labels₀ label_bytes x ≡ labels_left x labels₀
+  leaves_are : (x : Load) → pass.leaves image insts₀ (labels_of labels₀) labels₀ label_bytes x ≡ labels_left x labels₀
   unfolding pass.leaves labels_left
-  leaves-are (rejects n) = refl
-  leaves-are (accepts l) = refl
+  leaves_are (rejects n) = refl
+  leaves_are (accepts l) = refl
 
   pub underway_ends : (p : Linking) (labels insts : List ℕ) (r : Checked) → p.on ≡ false → Underway p labels → LoadInsts given insts₀ r insts → FromBinary image insts₀ labels₀ r.loading insts labels
   underway_ends p labels insts r o u f =
       let k = pass.underway_ends image insts₀ (labels_of labels₀) labels₀ label_bytes p labels o u in
-      record { answers = ap (λ (c : Checked). means c.loading) f.answers ∙ checked-means given; insts-are = f.insts-are; labels-are = k ∙ leaves-are given }
+      record { answers = ap (λ (c : Checked). means c.loading) f.answers ∙ checked_means given; insts_are = f.insts_are; labels_are = k ∙ leaves_are given }

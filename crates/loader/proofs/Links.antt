@@ -16,7 +16,7 @@ use Rattle.machine.specs.Load.{is_label, halt, head, linked, Scan, Scanned, stop
 use Rattle.loader.proofs.Scans.{last_inst}
 use Rattle.loader.proofs.Rests.{linked_long, grown}
 use Rattle.machine.proofs.Loads.{never_both, finished_is}
-use Rattle.loader.proofs.Loads.{not_finished, accepted-rest}
+use Rattle.loader.proofs.Loads.{not_finished, accepted_rest}
 
 -- the label table behind instructions, the first of which is instruction n
 unfoldable pub links : ℕ → List Inst → List Label → List Label
@@ -52,28 +52,28 @@ links_grow (i ∷ is) n ls = let a = linked_grows (is_label i) i n ls in let b =
 
 -- the labels of instructions, and there is room for them
 pub record Linked (is : List Inst) (ls : List Label) : Type 0 where
-  pub labels-are : ls ≡ links 0 is (head 0 ∷ [])
+  pub labels_are : ls ≡ links 0 is (head 0 ∷ [])
   pub fit : length ls ≤ label_records
 
-begin-linked : Linked begin.insts begin.labels
+begin_linked : Linked begin.insts begin.labels
 unfolding links
-begin-linked = record { labels-are = refl; fit = omega arith }
+begin_linked = record { labels_are = refl; fit = omega arith }
 
 module _ (image : List ℕ) (l : Loaded) where
-  linked-next : (s to : Scan) → scan_one s (from_bytes image s.at) ≡ goes to → Linked s.insts s.labels → Linked to.insts to.labels
-  linked-next s to e k =
+  linked_next : (s to : Scan) → scan_one s (from_bytes image s.at) ≡ goes to → Linked s.insts s.labels → Linked to.insts to.labels
+  linked_next s to e k =
       let g = grown s to _ e in
       let i = last_inst to.insts in
       let m = links_more s.insts 0 i (head 0 ∷ []) in
       record {
-        labels-are = g.labels-are ∙ sym (ap (λ (is : List Inst). links 0 is (head 0 ∷ [])) g.insts-are ∙ (rw (zero-add, ← k.labels-are) at m));
+        labels_are = g.labels_are ∙ sym (ap (λ (is : List Inst). links 0 is (head 0 ∷ [])) g.insts_are ∙ (rw (zero-add, ← k.labels_are) at m));
         fit = g.labels_fit k.fit;
       }
 
   linked_end : (s : Scan) → Linked s.insts s.labels → finished image (goes s) ≡ accepts l → Linked l.insts l.labels
   linked_end s k e =
       let c = finished_is image l s e in
-      rw (c.insts-are, c.labels-are) (record { labels-are = k.labels-are ∙ sym (links_closed s.insts (head 0 ∷ [])); fit = k.fit })
+      rw (c.insts_are, c.labels_are) (record { labels_are = k.labels_are ∙ sym (links_closed s.insts (head 0 ∷ [])); fit = k.fit })
 
   -- with one instruction more, if what follows it is so
   one_more : (s : Scan) (rest : Scan → Scanned) (x : Scanned) → ((to : Scan) → x ≡ goes to → finished image (rest to) ≡ accepts l → Linked l.insts l.labels)
@@ -87,7 +87,7 @@ module _ (image : List ℕ) (l : Loaded) where
   linked_all zero s k = linked_end s k
   linked_all (suc fuel) s k =
       by_test (λ x. finished image x ≡ accepts l → Linked l.insts l.labels) (ltb s.at (length image)) _ _
-      (λ _. one_more s (scan fuel image) (scan_one s (from_bytes image s.at)) (λ to e. linked_all fuel to (linked-next s to e k))) (λ _. linked_end s k)
+      (λ _. one_more s (scan fuel image) (scan_one s (from_bytes image s.at)) (λ to e. linked_all fuel to (linked_next s to e k))) (λ _. linked_end s k)
 
-  pub accepted-linked : loads image ≡ accepts l → Linked l.insts l.labels
-  accepted-linked e = let r = accepted-rest image l e in linked_all r.fuel begin begin-linked r.gives
+  pub accepted_linked : loads image ≡ accepts l → Linked l.insts l.labels
+  accepted_linked e = let r = accepted_rest image l e in linked_all r.fuel begin begin_linked r.gives

@@ -28,19 +28,19 @@ module _ (image : List ℕ) (is : List Inst) (ls : List Label) where
   few_labels h k = simp (le-ltb _ _ h, lt-ltb _ _ k)
 
 -- by the code's answer
-pub checked-means : (x : Load) → means (checked_of x).loading ≡ reply_of x
+pub checked_means : (x : Load) → means (checked_of x).loading ≡ reply_of x
 unfolding means reply_of checked_of fresh_at fresh
-checked-means (rejects n) = refl
-checked-means (accepts l) = refl
+checked_means (rejects n) = refl
+checked_means (accepts l) = refl
 
 -- a refusal writes nothing
 pub refused_with : (n : ℕ) (x : Load) (r : Checked) (insts : List ℕ) → x ≡ rejects n → r ≡ checked_of (rejects n) → LoadInsts x insts r insts
 unfolding insts_left
-refused_with n x r insts e g = rw (e, g) (record { answers = refl; insts-are = refl })
+refused_with n x r insts e g = rw (e, g) (record { answers = refl; insts_are = refl })
 
 refused_at : (n : ℕ) (x : Load) (insts : List ℕ) → Refused n ≡ (checked_of x).loading → LoadInsts x insts (checked_of x) insts
 unfolding checked_of insts_left
-refused_at n (rejects m) insts e = record { answers = refl; insts-are = refl }
+refused_at n (rejects m) insts e = record { answers = refl; insts_are = refl }
 refused_at n (accepts l) insts e = absurd (let z : ◌≡◌ {A = ℕ} 0 1 = cc in omega arith)
 
 pub refused_there : (n : ℕ) (x : Load) (r : Checked) (insts : List ℕ) → r ≡ checked_of x → Refused n ≡ r.loading → LoadInsts x insts r insts
@@ -51,8 +51,8 @@ unfolding checked_of
 accepted_at ip count image (rejects n) g e = absurd (let z : ◌≡◌ {A = ℕ} 0 1 = cc in omega arith)
 accepted_at ip count image (accepts l) g e = record { loaded = l; is = g; count_is = cc }
 
-pub accepted-load : (ip count : ℕ) (image : List ℕ) (r : Checked) → r ≡ checked_of (loads image) → Accepted ip count ≡ r.loading → Accepts image count
-accepted-load ip count image r g e = accepted_at ip count image (loads image) refl (e ∙ ap (λ (c : Checked). c.loading) g)
+pub accepted_load : (ip count : ℕ) (image : List ℕ) (r : Checked) → r ≡ checked_of (loads image) → Accepted ip count ≡ r.loading → Accepts image count
+accepted_load ip count image r g e = accepted_at ip count image (loads image) refl (e ∙ ap (λ (c : Checked). c.loading) g)
 
 -- an image that loads to l
 module _ (image : List ℕ) (l : Loaded) where
@@ -62,8 +62,8 @@ module _ (image : List ℕ) (l : Loaded) where
   not_finished n q = q
 
   -- all that there is to scan gives what it loads to
-  pub accepted-rest : loads image ≡ accepts l → Rest image begin (accepts l)
+  pub accepted_rest : loads image ≡ accepts l → Rest image begin (accepts l)
   unfolding loads
-  accepted-rest =
+  accepted_rest =
       by_test (λ x. x ≡ accepts l → Rest image begin (accepts l)) (ltb image_limit (length image)) _ _ (λ _. never_both 1 l)
       (λ _ q. record { fuel = length image; enough = omega arith; gives = q })

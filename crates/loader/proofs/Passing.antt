@@ -12,14 +12,14 @@ use Rattle.inst.proofs.Laws.{by_test, never}
 use Rattle.machine.specs.declared.Label.{Label}
 use Rattle.machine.specs.Load.{is_label, head, linked, Loaded, Load, rejects, accepts, load, count_of}
 use Rattle.tables.specs.Tables.{inst, insts_of, inst_bytes}
-use Rattle.tables.proofs.Laws.{length_records, insts-sets}
+use Rattle.tables.proofs.Laws.{length_records, insts_sets}
 use Rattle.loader.specs.declared.Linking.{Linking}
 use Rattle.loader.specs.declared.Checked.{Checked}
 use Rattle.loader.specs.Loading.{checked_of, insts_left}
 use Rattle.loader.specs.Linking.{no_link, head_by, head_link, label_link, next_link, Covers}
 use Rattle.loader.proofs.Rests.{linked_long}
-use Rattle.machine.proofs.Loads.{AcceptedLoad, load-accepts}
-use Rattle.loader.proofs.Links.{links, links_grow, accepted-linked}
+use Rattle.machine.proofs.Loads.{AcceptedLoad, load_accepts}
+use Rattle.loader.proofs.Links.{links, links_grow, accepted_linked}
 
 -- the record to be linked, behind those before; the first record is the head
 unfoldable pub linked_on : Linking → List Label → List Label
@@ -31,10 +31,10 @@ unfolding linked_on
 linked_on_long p [] = refl
 linked_on_long p (h ∷ ls) = (linked_long (named 21 p.start p.len) p.target (h ∷ ls)).1 (omega arith)
 
-label-on : (p : Linking) (i : Inst) (n : ℕ) (ls : List Label) → 0 < length ls → linked_on (label_link p n i) ls ≡ linked i n ls
+label_on : (p : Linking) (i : Inst) (n : ℕ) (ls : List Label) → 0 < length ls → linked_on (label_link p n i) ls ≡ linked i n ls
 unfolding linked_on linked
-label-on p i n [] h = absurd (omega arith)
-label-on p i n (k ∷ ls) h = refl
+label_on p i n [] h = absurd (omega arith)
+label_on p i n (k ∷ ls) h = refl
 
 -- the table's first records
 taken : (is js : List Inst) → length is ≤ length js → take (length is) (sets js 0 is) ≡ is
@@ -64,8 +64,8 @@ less : (o : Bool) (a b : ℕ) → (o ≡ true → a < b) → cond o (suc a) 0 < 
 less true a b f = let h = f refl in omega arith
 less false a b f = omega arith
 
-pub left-falls : (p q : Linking) (is : List Inst) → p.on ≡ true → q ≡ next_link p p.passed (drop p.passed (take p.count is)) → left q < left p
-left-falls p q is o e =
+pub left_falls : (p q : Linking) (is : List Inst) → p.on ≡ true → q ≡ next_link p p.passed (drop p.passed (take p.count is)) → left q < left p
+left_falls p q is o e =
     rw o (less q.on (q.count - q.passed) (p.count - p.passed)
     (λ t. let f = further (drop p.passed (take p.count is)) p p.passed (sym (ap (λ (x : Linking). x.on) e) ∙ t) in
     let g = subst (Further p p.passed (length (drop p.passed (take p.count is)))) (sym e) f in
@@ -107,7 +107,7 @@ module _ {B : Type 0} (image insts₀ : List ℕ) (ls₀ : List Label) (labels�
     pub has_labels : labels ≡ holding before
     pub index_is : p.index ≡ length before
     pub count_is : p.count ≡ count_of loaded
-    pub labels-are : p.labels ≡ length loaded.labels
+    pub labels_are : p.labels ≡ length loaded.labels
     pub index_low : p.index ≤ p.passed
     pub rest : links p.passed (drop p.passed loaded.insts) (linked_on p before) ≡ loaded.labels
 
@@ -117,7 +117,7 @@ module _ {B : Type 0} (image insts₀ : List ℕ) (ls₀ : List Label) (labels�
   State false p labels = labels ≡ leaves given
 
   pub record Underway (p : Linking) (labels : List B) : Type 0 where
-    pub labels-long : length labels ≡ length labels₀
+    pub labels_long : length labels ≡ length labels₀
     pub state : State p.on p labels
 
   -- as it begins
@@ -125,11 +125,11 @@ module _ {B : Type 0} (image insts₀ : List ℕ) (ls₀ : List Label) (labels�
   unfolding checked_of head_by State leaves linked_on
   begun (rejects n) g e p h = rw h (ap leaves (sym g))
   begun (accepts l) g e p h =
-      let k = accepted-linked image l (load-accepts image (insts_of insts₀) ls₀ l g).accepted in
-      rw h (record { loaded = l; is = g; before = []; has_labels = e; index_is = refl; count_is = refl; labels-are = refl; index_low = omega arith; rest = sym k.labels-are })
+      let k = accepted_linked image l (load_accepts image (insts_of insts₀) ls₀ l g).accepted in
+      rw h (record { loaded = l; is = g; before = []; has_labels = e; index_is = refl; count_is = refl; labels_are = refl; index_low = omega arith; rest = sym k.labels_are })
 
   pub underway_begins : (r : Checked) → r ≡ checked_of given → (p : Linking) → p ≡ head_link r → labels₀ ≡ holding [] → Underway p labels₀
-  underway_begins r a p b e = record { labels-long = refl; state = begun given refl e p (b ∙ ap head_link a) }
+  underway_begins r a p b e = record { labels_long = refl; state = begun given refl e p (b ∙ ap head_link a) }
 
   module _ (p : Linking) (labels : List B) (u : Underway p labels) (on : p.on ≡ true) where
     at : ToLink p labels
@@ -137,26 +137,26 @@ module _ {B : Type 0} (image insts₀ : List ℕ) (ls₀ : List Label) (labels�
     at = subst (λ (b : Bool). State b p labels) on u.state
 
     facts : AcceptedLoad image (insts_of insts₀) ls₀ at.loaded
-    facts = load-accepts image (insts_of insts₀) ls₀ at.loaded at.is
+    facts = load_accepts image (insts_of insts₀) ls₀ at.loaded at.is
 
     -- it is one of the labels, and there is room for it
-    index-long : length (linked_on p at.before) ≡ p.index + 1
-    index-long = let a = linked_on_long p at.before in let b = at.index_is in omega (arith, a, b)
+    index_long : length (linked_on p at.before) ≡ p.index + 1
+    index_long = let a = linked_on_long p at.before in let b = at.index_is in omega (arith, a, b)
 
     one_of : p.index < p.labels
     one_of =
-        let a = index-long in
+        let a = index_long in
         let b = links_grow (drop p.passed at.loaded.insts) p.passed (linked_on p at.before) in
         let c = ap length at.rest in
-        let d = at.labels-are in
+        let d = at.labels_are in
         omega (arith, a, b, c, d)
 
-    pub index-inside : p.index < length ls₀
-    index-inside =
-        let k = (accepted-linked image at.loaded facts.accepted).fit in
+    pub index_inside : p.index < length ls₀
+    index_inside =
+        let k = (accepted_linked image at.loaded facts.accepted).fit in
         let a = one_of in
-        let d = at.labels-are in
-        let e = facts.labels-room in
+        let d = at.labels_are in
+        let e = facts.labels_room in
         omega (arith, k, a, d, e)
 
     module _ (insts : List ℕ) (filled : insts ≡ insts_left given insts₀) where
@@ -165,13 +165,13 @@ module _ {B : Type 0} (image insts₀ : List ℕ) (ls₀ : List Label) (labels�
       stored = filled ∙ ap (λ (x : Load). insts_left x insts₀) at.is
 
       room : count_of at.loaded ≤ length (insts_of insts₀)
-      room = let a = facts.insts-room in let b = facts.count_fits in omega (arith, a, b)
+      room = let a = facts.insts_room in let b = facts.count_fits in omega (arith, a, b)
 
-      insts-are : take p.count (insts_of insts) ≡ at.loaded.insts
-      insts-are =
+      insts_are : take p.count (insts_of insts) ≡ at.loaded.insts
+      insts_are =
           ap (λ (n : ℕ). take n (insts_of insts)) at.count_is
           ∙ ap (λ (bs : List ℕ). take (count_of at.loaded) (insts_of bs)) stored
-          ∙ ap (take (count_of at.loaded)) (insts-sets at.loaded.insts insts₀)
+          ∙ ap (take (count_of at.loaded)) (insts_sets at.loaded.insts insts₀)
           ∙ taken at.loaded.insts (insts_of insts₀) room
 
       pub covers : Covers insts p
@@ -180,14 +180,14 @@ module _ {B : Type 0} (image insts₀ : List ℕ) (ls₀ : List Label) (labels�
           let b = at.count_is in
           let c = length_records inst insts₀ in
           let d = ap length stored ∙ length-sets insts₀ 0 (inst_bytes at.loaded.insts) in
-          let f = index-long in
+          let f = index_long in
           let g = ap length at.rest in
-          let h = at.labels-are in
+          let h = at.labels_are in
           record {
             inside = omega (arith, a, b, c, d);
             index_low = at.index_low;
             one_of = one_of;
-            all_linked = λ e. rw insts-are (none_left (drop p.passed at.loaded.insts) p.passed (linked_on p at.before) p (omega (arith, f)) (omega (arith, f, g, h, e)));
+            all_linked = λ e. rw insts_are (none_left (drop p.passed at.loaded.insts) p.passed (linked_on p at.before) p (omega (arith, f)) (omega (arith, f, g, h, e)));
           }
 
       -- the label is linked: whatever labels there are, there is one more
@@ -212,10 +212,10 @@ module _ {B : Type 0} (image insts₀ : List ℕ) (ls₀ : List Label) (labels�
                 has_labels = h;
                 index_is = k;
                 count_is = at.count_is;
-                labels-are = at.labels-are;
+                labels_are = at.labels_are;
                 index_low = omega arith;
                 rest = ap (λ (xs : List Inst). links (n + 1) xs (linked_on (label_link p n i) ls)) (dropped at.loaded.insts n i is e)
-                    ∙ ap (links (n + 1) is) (label-on p i n ls (omega arith)) ∙ g';
+                    ∙ ap (links (n + 1) is) (label_on p i n ls (omega arith)) ∙ g';
               }
           by_label false f g' = f g'
 
@@ -223,9 +223,9 @@ module _ {B : Type 0} (image insts₀ : List ℕ) (ls₀ : List Label) (labels�
           → Underway q labels'
       underway_on q labels' e f j =
           let h = e at.before at.index_is at.has_labels in
-          let s = found labels' (linked_on p at.before) (sym index-long) h (drop p.passed at.loaded.insts) p.passed refl at.index_low at.rest in
-          let z : q ≡ next_link p p.passed (drop p.passed at.loaded.insts) = f ∙ ap (λ (is : List Inst). next_link p p.passed (drop p.passed is)) insts-are in
-          record { labels-long = j ∙ u.labels-long; state = subst (λ (y : Linking). State y.on y labels') (sym z) s }
+          let s = found labels' (linked_on p at.before) (sym index_long) h (drop p.passed at.loaded.insts) p.passed refl at.index_low at.rest in
+          let z : q ≡ next_link p p.passed (drop p.passed at.loaded.insts) = f ∙ ap (λ (is : List Inst). next_link p p.passed (drop p.passed is)) insts_are in
+          record { labels_long = j ∙ u.labels_long; state = subst (λ (y : Linking). State y.on y labels') (sym z) s }
 
   -- as it ends
   pub underway_ends : (p : Linking) (labels : List B) → p.on ≡ false → Underway p labels → labels ≡ leaves given

@@ -27,8 +27,8 @@ pub record Rest (image : List ℕ) (s : Scan) (l : Load) : Type 0 where
 
 -- one instruction more
 pub record Grown (s to : Scan) (i : Inst) : Type 0 where
-  pub insts-are : to.insts ≡ s.insts ++ (i ∷ [])
-  pub labels-are : to.labels ≡ cond (is_label i) (linked i (length s.insts) s.labels) s.labels
+  pub insts_are : to.insts ≡ s.insts ++ (i ∷ [])
+  pub labels_are : to.labels ≡ cond (is_label i) (linked i (length s.insts) s.labels) s.labels
   pub labels_fit : length s.labels ≤ label_records → length to.labels ≤ label_records
 
 goes_where : (s to : Scan) (i : Inst) (size : ℕ) (ls : List Label) → ls ≡ cond (is_label i) (linked i (length s.insts) s.labels) s.labels
@@ -36,7 +36,7 @@ goes_where : (s to : Scan) (i : Inst) (size : ℕ) (ls : List Label) → ls ≡ 
     → Grown s to (last_inst to.insts)
 goes_where s to i size ls e f q =
     let z : record { at = s.at + size; insts = s.insts ++ (i ∷ []); labels = ls } ≡ to = cc in
-    subst (λ (x : Scan). Grown s x (last_inst x.insts)) z (rw snoc_last (record { insts-are = refl; labels-are = e; labels_fit = f }))
+    subst (λ (x : Scan). Grown s x (last_inst x.insts)) z (rw snoc_last (record { insts_are = refl; labels_are = e; labels_fit = f }))
 
 -- at most one label record more, and just one where the table has its head
 pub linked_long : (i : Inst) (n : ℕ) (ls : List Label) → (length (linked i n ls) ≤ length ls + 1) × (0 < length ls → length (linked i n ls) ≡ length ls + 1)
@@ -62,11 +62,11 @@ unfolding Ahead
 further size c r d a e = rw e at a
 
 -- the label table keeps its head
-head-kept : (b : Bool) (i : Inst) (n : ℕ) (ls : List Label) → 0 < length ls → 0 < length (cond b (linked i n ls) ls)
+head_kept : (b : Bool) (i : Inst) (n : ℕ) (ls : List Label) → 0 < length ls → 0 < length (cond b (linked i n ls) ls)
 unfolding linked
-head-kept true i n [] h = h
-head-kept true i n (l ∷ ls) h = omega arith
-head-kept false i n ls h = h
+head_kept true i n [] h = h
+head_kept true i n (l ∷ ls) h = omega arith
+head_kept false i n ls h = h
 
 module _ (image : List ℕ) where
   -- the code's answer says where the scan went
@@ -96,16 +96,16 @@ module _ (image : List ℕ) where
     rest_goes to zero k g e m = absurd (omega arith)
     rest_goes to (suc fuel) k g e m = record { fuel = fuel; enough = omega arith; gives = simp (lt-ltb _ _ h, e) at g }
 
-    pub rest-next : (to : Scan) → Rest image s l → scan_one s (from_bytes image s.at) ≡ goes to → s.at < to.at → Rest image to l
-    rest-next to r = rest_goes to r.fuel r.enough r.gives
+    pub rest_next : (to : Scan) → Rest image s l → scan_one s (from_bytes image s.at) ≡ goes to → s.at < to.at → Rest image to l
+    rest_next to r = rest_goes to r.fuel r.enough r.gives
 
-    rest-stops : (n fuel : ℕ) → length image ≤ s.at + fuel → finished image (scan fuel image s) ≡ l → scan_one s (from_bytes image s.at) ≡ stops n → rejects n ≡ l
+    rest_stops : (n fuel : ℕ) → length image ≤ s.at + fuel → finished image (scan fuel image s) ≡ l → scan_one s (from_bytes image s.at) ≡ stops n → rejects n ≡ l
     unfolding scan and_then finished
-    rest-stops n zero k g e = absurd (omega arith)
-    rest-stops n (suc fuel) k g e = simp (lt-ltb _ _ h, e) at g
+    rest_stops n zero k g e = absurd (omega arith)
+    rest_stops n (suc fuel) k g e = simp (lt-ltb _ _ h, e) at g
 
     pub rest_stop : (n : ℕ) → Rest image s l → scan_one s (from_bytes image s.at) ≡ stops n → rejects n ≡ l
-    rest_stop n r = rest-stops n r.fuel r.enough r.gives
+    rest_stop n r = rest_stops n r.fuel r.enough r.gives
 
   scan_end : (fuel : ℕ) (s : Scan) → length image ≤ s.at → scan fuel image s ≡ goes s
   unfolding scan
@@ -115,8 +115,8 @@ module _ (image : List ℕ) where
   pub rest_end : (s : Scan) (l : Load) → length image ≤ s.at → Rest image s l → finished image (goes s) ≡ l
   rest_end s l h r = ap (finished image) (sym (scan_end r.fuel s h)) ∙ r.gives
 
-  pub rest-begin : Rest image begin (finished image (scan (length image) image begin))
-  rest-begin = record { fuel = length image; enough = omega arith; gives = refl }
+  pub rest_begin : Rest image begin (finished image (scan (length image) image begin))
+  rest_begin = record { fuel = length image; enough = omega arith; gives = refl }
 
   -- a step of the first pass: c was kept of s, and the code keeps d
   pub record Passes (l : Load) (c d : Counts) (s : Scan) : Type 0 where
@@ -142,8 +142,8 @@ module _ (image : List ℕ) where
         record {
           to = w.to;
           counts_are = w.counts_are;
-          has_head = rw g.labels-are (head-kept (is_label i) i (length s.insts) s.labels z);
-          rest = rest-next s l inside w.to r w.goes_to k;
+          has_head = rw g.labels_are (head_kept (is_label i) i (length s.insts) s.labels z);
+          rest = rest_next s l inside w.to r w.goes_to k;
         }
 
     pub refuses_there : (n : ℕ) → Refused n ≡ next_of image (scan_one s (from_bytes image s.at)) → rejects n ≡ l
@@ -165,7 +165,7 @@ module _ (image : List ℕ) where
   unfolding counts_of
   checking_begins c e =
       let n : c.insts ≡ 0 = ap (λ (x : Counts). x.insts) e in
-      record { reached = begin; counts_are = e; has_head = omega arith; rest = rest-begin image; fit = omega arith }
+      record { reached = begin; counts_are = e; has_head = omega arith; rest = rest_begin image; fit = omega arith }
 
   module _ (c : Counts) (k : Checking image c) (h : c.at < length image) where
     pub checking_next : (d : Counts) → Further (length image) c d → Read d ≡ next_of image (scan_one k.reached (from_bytes image k.reached.at))

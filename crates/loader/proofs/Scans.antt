@@ -55,15 +55,15 @@ module _ (image : List ℕ) where
   snoc_entry [] e l = refl
   snoc_entry (k ∷ ls) e l = snoc_entry ls _ l
 
-  found-more : (b : Bool) (n : ℕ) (e : Entry) → is_found (cond b (entry n) e) ≡ (b || is_found e)
+  found_more : (b : Bool) (n : ℕ) (e : Entry) → is_found (cond b (entry n) e) ≡ (b || is_found e)
   unfolding is_found
-  found-more true n e = refl
-  found-more false n e = refl
+  found_more true n e = refl
+  found_more false n e = refl
 
-  pointer-more : (b : Bool) (n : ℕ) (e : Entry) → pointer (cond b (entry n) e) ≡ cond b n (pointer e)
+  pointer_more : (b : Bool) (n : ℕ) (e : Entry) → pointer (cond b (entry n) e) ≡ cond b n (pointer e)
   unfolding pointer
-  pointer-more true n e = refl
-  pointer-more false n e = refl
+  pointer_more true n e = refl
+  pointer_more false n e = refl
 
   -- an instruction that is no label
   pub counts_plain : (s : Scan) (i : Inst) (size : ℕ)
@@ -79,4 +79,4 @@ module _ (image : List ℕ) where
   counts_label at is [] i size h = absurd (omega arith)
   counts_label at is (k ∷ ls) i size h =
       let l : Label = record { start = i.start; len = i.len; target = length is; next = k.next } in
-      simp (snoc_long, snoc_native, snoc_halts, snoc_entry ls no_entry l, found-more, pointer-more, suc-add)
+      simp (snoc_long, snoc_native, snoc_halts, snoc_entry ls no_entry l, found_more, pointer_more, suc-add)

@@ -13,9 +13,9 @@ use Rattle.inst.proofs.Laws.{sets_more}
 use Rattle.machine.specs.declared.Label.{Label}
 use Rattle.machine.specs.Load.{halt, linked, last_is_halt, closed}
 use Rattle.tables.specs.Tables.{numbers_in, number_at, bytes_of, numbers_of, inst_numbers, label_numbers, inst_bytes, label_bytes}
-use Rattle.tables.proofs.Numbers.{labels_append, sets-rest}
-use Rattle.tables.proofs.Bytes.{length_numbers_in, length_bytes, bytes_append, numbers-sets, sets_over}
-use Rattle.tables.proofs.Laws.{insts-append, length-insts, length-labels}
+use Rattle.tables.proofs.Numbers.{labels_append, sets_rest}
+use Rattle.tables.proofs.Bytes.{length_numbers_in, length_bytes, bytes_append, numbers_sets, sets_over}
+use Rattle.tables.proofs.Laws.{insts_append, length_insts, length_labels}
 use Rattle.loader.specs.declared.Linking.{Linking}
 use Rattle.loader.specs.Linking.{linked_at}
 use Rattle.loader.proofs.Passing.{linked_on}
@@ -31,28 +31,28 @@ behind xs ys vs ws i e n =
     rw (e, m) (sets_more vs xs ws 0)
 
 -- an instruction more
-pub inst-more : (xs ys : List ℕ) (is : List Inst) (i : Inst) (n : ℕ) → n ≡ length is → ys ≡ sets xs 0 (inst_bytes is)
+pub inst_more : (xs ys : List ℕ) (is : List Inst) (i : Inst) (n : ℕ) → n ≡ length is → ys ≡ sets xs 0 (inst_bytes is)
     → sets ys (n * 32) (bytes_of (inst_numbers i)) ≡ sets xs 0 (inst_bytes (is ++ (i ∷ [])))
 unfolding numbers_of
-inst-more xs ys is i n m e =
-    rw (m, insts-append is (i ∷ [])) (behind xs ys (inst_bytes is) (bytes_of (inst_numbers i)) (length is) e (length-insts is))
+inst_more xs ys is i n m e =
+    rw (m, insts_append is (i ∷ [])) (behind xs ys (inst_bytes is) (bytes_of (inst_numbers i)) (length is) e (length_insts is))
 
 -- HALT, where it is appended
-pub halt-more : (xs ys : List ℕ) (is : List Inst) (n : ℕ) → n ≡ length is → ys ≡ sets xs 0 (inst_bytes is)
+pub halt_more : (xs ys : List ℕ) (is : List Inst) (n : ℕ) → n ≡ length is → ys ≡ sets xs 0 (inst_bytes is)
     → cond (ltb n (length (closed is))) (sets ys (n * 32) (bytes_of (inst_numbers halt))) ys ≡ sets xs 0 (inst_bytes (closed is))
 unfolding closed
-halt-more xs ys is n m e = by_halt (last_is_halt is)
+halt_more xs ys is n m e = by_halt (last_is_halt is)
   where
     by_halt : (b : Bool) → cond (ltb n (length (cond b is (is ++ (halt ∷ []))))) (sets ys (n * 32) (bytes_of (inst_numbers halt))) ys ≡ sets xs 0 (inst_bytes (cond b is (is ++ (halt ∷ []))))
     by_halt true = let h : length is ≤ n = omega arith in simp (le-ltb _ _ h) e
     by_halt false =
         let h : n < length (is ++ (halt ∷ [])) = rw length-append (omega arith) in
-        simp (lt-ltb _ _ h) (inst-more xs ys is halt n m e)
+        simp (lt-ltb _ _ h) (inst_more xs ys is halt n m e)
 
 -- the head over what stands there
-head-over : (xs vs : List ℕ) (a b c d k : ℕ)
+head_over : (xs vs : List ℕ) (a b c d k : ℕ)
     → sets (sets xs 0 (bytes_of (a ∷ b ∷ c ∷ d ∷ vs))) 0 (bytes_of (0 ∷ 0 ∷ 0 ∷ k ∷ [])) ≡ sets xs 0 (bytes_of (0 ∷ 0 ∷ 0 ∷ k ∷ vs))
-head-over xs vs a b c d k =
+head_over xs vs a b c d k =
     ap (λ (l : List ℕ). sets (sets xs 0 l) 0 (bytes_of (0 ∷ 0 ∷ 0 ∷ k ∷ []))) (bytes_append (a ∷ b ∷ c ∷ d ∷ []) vs)
     ∙ sets_over (bytes_of (a ∷ b ∷ c ∷ d ∷ [])) (bytes_of (0 ∷ 0 ∷ 0 ∷ k ∷ [])) (bytes_of vs) xs (length_bytes (a ∷ b ∷ c ∷ d ∷ []) ∙ sym (length_bytes (0 ∷ 0 ∷ 0 ∷ k ∷ [])))
     ∙ ap (sets xs 0) (sym (bytes_append (0 ∷ 0 ∷ 0 ∷ k ∷ []) vs))
@@ -62,21 +62,21 @@ fourth [] vs a b c d h = absurd (omega arith)
 fourth (x ∷ []) vs a b c d h = absurd (omega arith)
 fourth (x ∷ y ∷ []) vs a b c d h = absurd (omega arith)
 fourth (x ∷ y ∷ z ∷ []) vs a b c d h = absurd (omega arith)
-fourth (x ∷ y ∷ z ∷ w ∷ xs) vs a b c d h = ap (λ (l : List ℕ). get_or l 3 0) (sets-rest a b c d xs vs)
+fourth (x ∷ y ∷ z ∷ w ∷ xs) vs a b c d h = ap (λ (l : List ℕ). get_or l 3 0) (sets_rest a b c d xs vs)
 
 next_there : (xs vs : List ℕ) (a b c d : ℕ) → 32 ≤ length xs → number_at (sets xs 0 (bytes_of (a ∷ b ∷ c ∷ d ∷ vs))) 3 ≡ d
 next_there xs vs a b c d h =
     let l = length_numbers_in xs in
-    ap (λ (l : List ℕ). get_or l 3 0) (numbers-sets (a ∷ b ∷ c ∷ d ∷ vs) xs 0) ∙ fourth (numbers_in xs) vs a b c d (omega arith)
+    ap (λ (l : List ℕ). get_or l 3 0) (numbers_sets (a ∷ b ∷ c ∷ d ∷ vs) xs 0) ∙ fourth (numbers_in xs) vs a b c d (omega arith)
 
 -- a label more, or the head
-pub label-more : (xs ys : List ℕ) (p : Linking) (ls : List Label) → 32 ≤ length xs → p.index ≡ length ls → ys ≡ sets xs 0 (label_bytes ls)
+pub label_more : (xs ys : List ℕ) (p : Linking) (ls : List Label) → 32 ≤ length xs → p.index ≡ length ls → ys ≡ sets xs 0 (label_bytes ls)
     → linked_at ys p ≡ sets xs 0 (label_bytes (linked_on p ls))
 unfolding linked_at linked_on linked numbers_of bytes_of
-label-more xs ys p [] z k e = rw (k, e) (head-over xs [] p.start p.len p.target (number_at xs 3) 0)
-label-more xs ys p (h ∷ ls) z k e =
+label_more xs ys p [] z k e = rw (k, e) (head_over xs [] p.start p.len p.target (number_at xs 3) 0)
+label_more xs ys p (h ∷ ls) z k e =
     let new : Label = record { start = p.start; len = p.len; target = p.target; next = h.next } in
     let n : number_at ys 3 ≡ h.next = ap (λ (l : List ℕ). number_at l 3) e ∙ next_there xs (numbers_of label_numbers ls) h.start h.len h.target h.next z in
     let s : sets ys (suc (length ls) * 32) (bytes_of (label_numbers new)) ≡ sets xs 0 (bytes_of (numbers_of label_numbers (h ∷ ls) ++ label_numbers new)) =
-    behind xs ys (label_bytes (h ∷ ls)) (bytes_of (label_numbers new)) (suc (length ls)) e (length-labels (h ∷ ls)) ∙ ap (sets xs 0) (sym (bytes_append (numbers_of label_numbers (h ∷ ls)) (label_numbers new))) in
-    rw (k, n, s, labels_append ls (new ∷ [])) (head-over xs (numbers_of label_numbers ls ++ label_numbers new) h.start h.len h.target h.next (suc (length ls)))
+    behind xs ys (label_bytes (h ∷ ls)) (bytes_of (label_numbers new)) (suc (length ls)) e (length_labels (h ∷ ls)) ∙ ap (sets xs 0) (sym (bytes_append (numbers_of label_numbers (h ∷ ls)) (label_numbers new))) in
+    rw (k, n, s, labels_append ls (new ∷ [])) (head_over xs (numbers_of label_numbers ls ++ label_numbers new) h.start h.len h.target h.next (suc (length ls)))

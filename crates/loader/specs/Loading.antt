@@ -49,7 +49,7 @@ pub record Accepts (image : List ℕ) (count : ℕ) : Type 0 where
 -- what a load answers, and leaves in the instruction table
 pub record LoadInsts (given : Load) (insts : List ℕ) (r : Checked) (insts' : List ℕ) : Type 0 where
   pub answers : r ≡ checked_of given
-  pub insts-are : insts' ≡ insts_left given insts
+  pub insts_are : insts' ≡ insts_left given insts
 
 -- the load of document 01 with tables that are lent as bytes
 abbrev pub load_of : List ℕ → List ℕ → List ℕ → Load
@@ -58,5 +58,5 @@ load_of image insts labels = load image (insts_of insts) (labels_of labels)
 -- what a call answers and leaves in the two tables
 pub record FromBinary (image insts labels : List ℕ) (r : Loading) (insts' labels' : List ℕ) : Type 0 where
   pub answers : means r ≡ reply_of (load_of image insts labels)
-  pub insts-are : insts' ≡ insts_left (load_of image insts labels) insts
-  pub labels-are : labels' ≡ labels_left (load_of image insts labels) labels
+  pub insts_are : insts' ≡ insts_left (load_of image insts labels) insts
+  pub labels_are : labels' ≡ labels_left (load_of image insts labels) labels

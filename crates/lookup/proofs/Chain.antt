@@ -24,11 +24,11 @@ program_by true t = (refl, refl)
 program_by false t = (refl, refl)
 
 module _ (t count : ℕ) {r : LookedUp} (e : r ≡ cond (ltb t count) (Target t) NoLabel) where
-  pub program-asked : is_asked r ≡ true
-  program-asked = ap is_asked e ∙ (program_by (ltb t count) t).0
+  pub program_asked : is_asked r ≡ true
+  program_asked = ap is_asked e ∙ (program_by (ltb t count) t).0
 
-  pub program-found : found_of r ≡ cond (ltb t count) (leads_to t) no_label
-  program-found = ap found_of e ∙ (program_by (ltb t count) t).1
+  pub program_found : found_of r ≡ cond (ltb t count) (leads_to t) no_label
+  program_found = ap found_of e ∙ (program_by (ltb t count) t).1
 
 abbrev name : Program → ℕ → ℕ → List ℕ
 name p start len = part p.image start len
@@ -126,8 +126,8 @@ module _ (p : Program) (start len : ℕ) (w : Walk) (l : Label) (e : label_at p 
         let q : get_or p.labels 0 (head 0) ≡ l = rw z at e in
         from_head p start len l b p.labels q (omega (arith, inv.inside o)) t
 
-    pub head-on : (eqb l.start 0 && eqb l.len 0 && eqb l.target 0) ≡ true → GoesOn p start len w.bound l.next
-    head-on t =
+    pub head_on : (eqb l.start 0 && eqb l.len 0 && eqb l.target 0) ≡ true → GoesOn p start len w.bound l.next
+    head_on t =
         rw (inv.at_head o z) (record {
           fuel = length p.labels;
           enough = omega arith;
@@ -136,8 +136,8 @@ module _ (p : Program) (start len : ℕ) (w : Walk) (l : Label) (e : label_at p 
           is = sym (headed true t);
         })
 
-    pub head-ill : (eqb l.start 0 && eqb l.len 0 && eqb l.target 0) ≡ false → ill_chain ≡ lookup_from p (name p start len) p.labels
-    head-ill t = sym (headed false t)
+    pub head_ill : (eqb l.start 0 && eqb l.len 0 && eqb l.target 0) ≡ false → ill_chain ≡ lookup_from p (name p start len) p.labels
+    head_ill t = sym (headed false t)
 
   module _ (z : w.at ≡ 0 → ⊥) where
     pub chain_on : name_in p.image l.start l.len ≡ true → same (name p start len) (name_of p.image l) ≡ false → GoesOn p start len w.bound l.next

@@ -39,7 +39,7 @@ call_gains closes m m' c = ap pos c.2 ∙ less_by (height_of_calls m) 1 c.0
 
 pub record Moves (e : Effects) (w : Touches) (found : Found) (m : Machine) (dumped : List ℕ) (m' : Machine) : Type 0 where
   pub limited : m.height ≤ stack_limit → m'.height ≤ stack_limit
-  pub called : CallsAre e.on-calls m m'
+  pub called : CallsAre e.on_calls m m'
   pub touched : Touched e w found m dumped m'
 
 -- 27 is only where an address was stacked
@@ -52,7 +52,7 @@ Room closes t m = eqb t 27 ≡ false
 unfoldable pub Does : Type 0 → Effects → Touches → Found → Machine → Stepped → Type 0
 Does I e w found m (succeeds m') = Moves e w found m [] m'
 Does I e w found m (outputs c m') = Moves e w found m (c ∷ []) m'
-Does I e w found m (trap t m') = TrapLeft e t m m' × Room e.on-calls t m
+Does I e w found m (trap t m') = TrapLeft e t m m' × Room e.on_calls t m
 Does I e w found m ill = I
 
 -- a trap's number is one of 20 to 32
@@ -72,7 +72,7 @@ module _ (I : Type 0) (m : Machine) where
         stack_is = refl;
         calls_are = rw o (refl, refl);
         memory_is = refl;
-        flags-are = refl;
+        flags_are = refl;
         pointer_is = refl;
         halted_is = refl;
       }
@@ -96,7 +96,7 @@ module _ (I : Type 0) (m : Machine) where
         stack_is = refl;
         calls_are = rw o (refl, refl);
         memory_is = refl;
-        flags-are = refl;
+        flags_are = refl;
         pointer_is = refl;
         halted_is = refl;
       },
@@ -105,7 +105,7 @@ module _ (I : Type 0) (m : Machine) where
 
     -- an untrapped step to m', by each of its parts
     moves : (e : Effects) (dumped : List ℕ) (m' : Machine) → pos m'.height ≡ pos m.height +ℤ e.gain → (m.height ≤ stack_limit → m'.height ≤ stack_limit)
-        → CallsAre e.on-calls m m' → Except w.stack m.stack m'.stack → Except w.calls m.calls m'.calls
+        → CallsAre e.on_calls m m' → Except w.stack m.stack m'.stack → Except w.calls m.calls m'.calls
         → Except w.memory m.memory m'.memory → (w.flags ≡ false → m'.flags ≡ m.flags) → m'.halted ≡ (w.halted || m.halted)
         → dumped ≡ map (λ (j : ℕ). get_or m.stack j 0) w.dumps → PointerIs w.pointer found m m' → Moves e w found m dumped m'
     moves e dumped m' h l c s k b f d o q =
@@ -114,13 +114,13 @@ module _ (I : Type 0) (m : Machine) where
           called = c;
           touched = record {
             height_is = h;
-            call_height_is = call_gains e.on-calls m m' c;
+            call_height_is = call_gains e.on_calls m m' c;
             stack_is = s;
             calls_are = k;
             memory_is = b;
-            flags-are = f;
+            flags_are = f;
             halted_is = d;
-            dumps-are = o;
+            dumps_are = o;
             pointer_is = q;
           };
         }
@@ -305,7 +305,7 @@ module _ (I : Type 0) (m : Machine) where
       stack_is = refl;
       calls_are = (refl, refl);
       memory_is = refl;
-      flags-are = refl;
+      flags_are = refl;
       pointer_is = refl;
       halted_is = refl;
     },

@@ -35,17 +35,17 @@ module _ (image : List ℕ) where
   then_none rest n f (stops k) l = tt
   then_none rest n f (goes s) l = f s l
 
-  scan-ends : (n : ℕ) (s : Scan) → length image ≤ s.at + n → Left image 0 (scan n image s)
+  scan_ends : (n : ℕ) (s : Scan) → length image ≤ s.at + n → Left image 0 (scan n image s)
   unfolding Left scan
-  scan-ends zero s h = h
-  scan-ends (suc n) s h =
+  scan_ends zero s h = h
+  scan_ends (suc n) s h =
       by_test (Left image 0) (ltb s.at (length image)) _ (goes s)
-      (λ _. then_none (scan n image) n (scan-ends n) _ (one_less n s _ h (told image s.at)))
+      (λ _. then_none (scan n image) n (scan_ends n) _ (one_less n s _ h (told image s.at)))
       (λ b. omega (arith, ltb-false s.at (length image) b))
 
   pub reads_to_end : (s : Scan) → scan (length image) image begin ≡ goes s → length image ≤ s.at
   unfolding Left
-  reads_to_end s e = omega (arith, subst (Left image 0) e (scan-ends (length image) begin (omega arith)))
+  reads_to_end s e = omega (arith, subst (Left image 0) e (scan_ends (length image) begin (omega arith)))
 
 module _ (p : Program) (name : List ℕ) where
   -- one record on, as each index is below the bound

@@ -85,43 +85,43 @@ module _ (p : Program) (first : State) where
     pub history_is : history p first (n + r.steps) ≡ end last
     pub machine_is : last.machine ≡ r.machine
     pub counts : Counts last.machine last.open_calls
-    pub dumps-are : last.dumps ≡ s.dumps ++ r.cells
+    pub dumps_are : last.dumps ≡ s.dumps ++ r.cells
     pub within : r.steps ≤ limit
     pub fits : length r.cells ≤ room
     pub because : Because p first (n + r.steps) (n + limit) (length r.cells) room r.machine r.ending
-    pub trap-ends : (k : ℕ) (u : State) (t : ℕ) (m : Machine) → n ≤ k → k < n + r.steps → history p first k ≡ end u → step p u.machine ≡ trap t m
+    pub trap_ends : (k : ℕ) (u : State) (t : ℕ) (m : Machine) → n ≤ k → k < n + r.steps → history p first k ≡ end u → step p u.machine ≡ trap t m
         → (suc k ≡ n + r.steps) × (r.ending ≡ Number t)
 
-  joined-ended : (n : ℕ) (s : State) (limit room : ℕ) (e : Ending) → history p first n ≡ end s → Counts s.machine s.open_calls
+  joined_ended : (n : ℕ) (s : State) (limit room : ℕ) (e : Ending) → history p first n ≡ end s → Counts s.machine s.open_calls
       → Because p first (n + 0) (n + limit) 0 room s.machine e → Joined n s limit room (ended e s.machine)
-  joined-ended n s limit room e q c b =
+  joined_ended n s limit room e q c b =
       record {
         last = s;
         history_is = rw add-zero q;
         machine_is = refl;
         counts = c;
-        dumps-are = sym (append-nil s.dumps);
+        dumps_are = sym (append-nil s.dumps);
         within = omega arith;
         fits = omega arith;
         because = b;
-        trap-ends = λ k u t m i j. absurd (omega arith);
+        trap_ends = λ k u t m i j. absurd (omega arith);
       }
 
-  joined-after : (n : ℕ) (s u : State) (cells : List ℕ) (limit room whole : ℕ) (r : Course) → history p first n ≡ end s
+  joined_after : (n : ℕ) (s u : State) (cells : List ℕ) (limit room whole : ℕ) (r : Course) → history p first n ≡ end s
       → ((t : ℕ) (m : Machine) → step p s.machine ≡ trap t m → (r.steps ≡ 0) × (r.ending ≡ Number t)) → u.dumps ≡ s.dumps ++ cells
       → length cells + room ≡ whole → Joined (suc n) u limit room r → Joined n s (suc limit) whole (after cells r)
-  joined-after n s u cells limit room whole r q only-last d f j =
+  joined_after n s u cells limit room whole r q only-last d f j =
       record {
         last = j.last;
         history_is = rw (add-suc, ← suc-add) j.history_is;
         machine_is = j.machine_is;
         counts = j.counts;
-        dumps-are = j.dumps-are ∙ ap (λ (x : List ℕ). x ++ r.cells) d ∙ append_assoc s.dumps cells r.cells;
+        dumps_are = j.dumps_are ∙ ap (λ (x : List ℕ). x ++ r.cells) d ∙ append_assoc s.dumps cells r.cells;
         within = omega (arith, j.within);
         fits = rw length-append (omega (arith, j.fits));
         because = because_as r.machine _ _ _ _ _ _ _ _ (suc-add n r.steps ∙ sym (add-suc n r.steps)) (suc-add n limit ∙ sym (add-suc n limit))
             (λ e. length-append cells r.cells ∙ ap (λ (x : ℕ). length cells + x) e ∙ f) r.ending j.because;
-        trap-ends = λ k v t m a b e i. by k v t m a b e i (eqb k n) refl;
+        trap_ends = λ k v t m a b e i. by k v t m a b e i (eqb k n) refl;
       }
     where
       by : (k : ℕ) (v : State) (t : ℕ) (m : Machine) → n ≤ k → k < n + suc r.steps → history p first k ≡ end v → step p v.machine ≡ trap t m
@@ -130,7 +130,7 @@ module _ (p : Program) (first : State) where
           let same : s ≡ v = end_same s v (sym q ∙ ap (history p first) (sym (eqb-true k n z)) ∙ e) in
           let l = only-last t m (ap (λ (x : State). step p x.machine) same ∙ i) in
           (omega (arith, l.0, eqb-true k n z), l.1)
-      by k v t m a b e i false z = let l = j.trap-ends k v t m (later (eqb-false k n z)) (omega arith) e i in (omega (arith, l.0), l.1)
+      by k v t m a b e i false z = let l = j.trap_ends k v t m (later (eqb-false k n z)) (omega arith) e i in (omega (arith, l.0), l.1)
         where
           later : (k ≡ n → ⊥) → suc n ≤ k
           later h = omega arith
@@ -152,13 +152,13 @@ module _ (p : Program) (first : State) where
 
     next : (limit room whole : ℕ) (o : Outcome) (m' : Machine) (cells : List ℕ) (rest : Course) → s.machine.halted ≡ false
         → stepped s (effects_at p s.machine) (step p s.machine) ≡ advance s (effects_at p s.machine) o m' cells
-        → Open s.machine m' s.open_calls (effects_at p s.machine).on-calls o
+        → Open s.machine m' s.open_calls (effects_at p s.machine).on_calls o
         → ((t : ℕ) (m : Machine) → step p s.machine ≡ trap t m → (rest.steps ≡ 0) × (rest.ending ≡ Number t)) → length cells + room ≡ whole
         → ((l : List ℕ) → history p first (suc n) ≡ end (after_it o m' cells l) → Counts m' l → Joined (suc n) (after_it o m' cells l) limit room rest)
         → Joined n s (suc limit) whole (after cells rest)
     unfolding advance end_with
     next limit room whole o m' cells rest h e k only-last f j =
-        joined-after n s _ cells limit room whole rest q only-last refl f (j k.0 (goes h ∙ e ∙ ap (end_with _) k.1) k.2)
+        joined_after n s _ cells limit room whole rest q only-last refl f (j k.0 (goes h ∙ e ∙ ap (end_with _) k.1) k.2)
 
     taken_joins : (limit room : ℕ) → Joins limit → s.machine.halted ≡ false → (st : Stepped) → step p s.machine ≡ st → is_ill st ≡ false
         → (is_dump st && eqb room 0) ≡ false → Joined n s (suc limit) room (taken s.machine (course p limit) room st)
@@ -179,7 +179,7 @@ module _ (p : Program) (first : State) where
         let l = rw e at (anywhere p s.machine) in
         let k = open_trap s.machine m' s.open_calls c _ t l.0.calls_are l.1 in
         next limit room room (trapped t) m' [] _ h (ap (stepped s _) e) k (λ u m f. (refl, (cc))) (zero-add room)
-        (λ l g x. joined-ended (suc n) _ limit room (Number t) g x (is_trap n s (sym (add-zero (suc n))) q e))
+        (λ l g x. joined_ended (suc n) _ limit room (Number t) g x (is_trap n s (sym (add-zero (suc n))) q e))
     taken_joins limit room ih h ill e i d = never (sym i)
 
     -- before the step the run ends, or the step is taken
@@ -192,12 +192,12 @@ module _ (p : Program) (first : State) where
         let m = s.machine in
         let st = step p m in
         let P : Before → Type 0 = λ b. Joined n s limit room (turn m rest room st b) in
-        by_test P m.halted _ _ (λ h. joined-ended n s limit room Halted q c h) λ h.
-        by_test P (eqb limit 0) _ _ (λ z. joined-ended n s limit room Limit q c (h, ap (λ (x : ℕ). n + x) (sym (eqb-true limit 0 z)))) λ z.
+        by_test P m.halted _ _ (λ h. joined_ended n s limit room Halted q c h) λ h.
+        by_test P (eqb limit 0) _ _ (λ z. joined_ended n s limit room Limit q c (h, ap (λ (x : ℕ). n + x) (sym (eqb-true limit 0 z)))) λ z.
         let l : n + 0 < n + limit = positive limit (eqb-false limit 0 z) in
-        by_test P (is_ill st) _ _ (λ i. joined-ended n s limit room (Number 34) q c (is_ill_lem refl (ill_is st i) h l)) λ i.
+        by_test P (is_ill st) _ _ (λ i. joined_ended n s limit room (Number 34) q c (is_ill_lem refl (ill_is st i) h l)) λ i.
         by_test P (is_dump st && eqb room 0) _ _
-        (λ d. joined-ended n s limit room (Number 33) q c (is_full refl (and_left _ _ d) (sym (eqb-true room 0 (and_right (is_dump st) _ d))) h l))
+        (λ d. joined_ended n s limit room (Number 33) q c (is_full refl (and_left _ _ d) (sym (eqb-true room 0 (and_right (is_dump st) _ d))) h l))
         (λ d. f (eqb-false limit 0 z) h i d)
       where
         positive : (l : ℕ) → (l ≡ 0 → ⊥) → n + 0 < n + l
@@ -227,10 +227,10 @@ runs_are_histories p s q c =
       history_is = rw zero-add at j.history_is;
       machine_is = sym j.machine_is;
       size_is = length-sets q.buffer 0 r.cells;
-      dumps-are = j.dumps-are ∙ ap (λ (x : List ℕ). s.dumps ++ x) (sym (front r.cells q.buffer j.fits));
+      dumps_are = j.dumps_are ∙ ap (λ (x : List ℕ). s.dumps ++ x) (sym (front r.cells q.buffer j.fits));
       rest_is = rest r.cells q.buffer j.fits;
       within = j.within;
       fits = j.fits;
       because = because_as p s r.machine _ _ _ _ _ _ _ _ (zero-add r.steps) (zero-add q.limit) (λ e. e) r.ending j.because;
-      trap-ends = λ k u t m l h e. let x = j.trap-ends k u t m (omega arith) (omega arith) h e in (omega (arith, x.0), x.1);
+      trap_ends = λ k u t m l h e. let x = j.trap_ends k u t m (omega arith) (omega arith) h e in (omega (arith, x.0), x.1);
     }

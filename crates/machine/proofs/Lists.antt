@@ -56,7 +56,7 @@ below_get_d n (x ∷ l) (suc i) b h = below_get_d n l i b.1 (le_of_suc-le-suc h)
 -- lists that differ in these slots at most
 
 pub unchanged : (slots xs : List ℕ) → Except slots xs xs
-unchanged slots xs = record { size_is = refl; others-are = λ i h. refl }
+unchanged slots xs = record { size_is = refl; others_are = λ i h. refl }
 
 module _ (xs : List ℕ) (k v : ℕ) where
   pub stored : (slots : List ℕ) (ys : List ℕ) → Except slots xs ys → Except (k ∷ slots) xs (set ys k v)
@@ -64,7 +64,7 @@ module _ (xs : List ℕ) (k v : ℕ) where
   stored slots ys e =
       record {
         size_is = length-set ys k v ∙ e.size_is;
-        others-are = λ i h. get_or-set_other ys k i v 0 (eqb-false i k (or_left (eqb i k) _ h)) ∙ e.others-are i (or_right (eqb i k) _ h);
+        others_are = λ i h. get_or-set_other ys k i v 0 (eqb-false i k (or_left (eqb i k) _ h)) ∙ e.others_are i (or_right (eqb i k) _ h);
       }
 
   pub one : Except (k ∷ []) xs (set xs k v)

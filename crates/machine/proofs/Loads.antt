@@ -31,8 +31,8 @@ one_case P s i size five six label other =
 
 -- the scan s passes what is tested behind it, and gives l
 pub record Finished (image : List ℕ) (s : Scan) (l : Loaded) : Type 0 where
-  pub insts-are : l.insts ≡ closed s.insts
-  pub labels-are : l.labels ≡ s.labels
+  pub insts_are : l.insts ≡ closed s.insts
+  pub labels_are : l.labels ≡ s.labels
   pub start : last_of image start_name no_entry (drop 1 s.labels) ≡ entry l.ip
   pub fits : count_of l ≤ inst_limit
   pub no_native : any_native l.insts ≡ false
@@ -53,7 +53,7 @@ module _ (image : List ℕ) (l : Loaded) where
   entered_is s (entry t) q e =
       let x : Loaded = record { insts = closed s.insts; labels = s.labels; ip = t } in
       let c = checked_by x l (ltb inst_limit (length x.insts)) (any_native x.insts) e in
-      let f : Finished image s x = record { insts-are = refl; labels-are = refl; start = q; fits = ltb-false _ _ c.0; no_native = c.1 } in
+      let f : Finished image s x = record { insts_are = refl; labels_are = refl; start = q; fits = ltb-false _ _ c.0; no_native = c.1 } in
       subst (Finished image s) c.2 f
 
   pub finished_is : (s : Scan) → finished image (goes s) ≡ accepts l → Finished image s l
@@ -81,7 +81,7 @@ module _ (image : List ℕ) (l : Loaded) where
   -- and back
   pub loads_as : (s : Scan) → length image ≤ image_limit → scan (length image) image begin ≡ goes s → Finished image s l → loads image ≡ accepts l
   unfolding loads finished entered checked
-  loads_as s h z f = rw (le-ltb image_limit (length image) h, z, f.start, ← f.insts-are, ← f.labels-are, le-ltb inst_limit (count_of l) f.fits, f.no_native)
+  loads_as s h z f = rw (le-ltb image_limit (length image) h, z, f.start, ← f.insts_are, ← f.labels_are, le-ltb inst_limit (count_of l) f.fits, f.no_native)
 
 -- ---- the lent tables only decide about 10
 
@@ -92,18 +92,18 @@ module _ (image : List ℕ) (is : List Inst) (ls : List Label) where
 
   -- an accepted load: the tables have room, and the image is accepted
   pub record AcceptedLoad (l : Loaded) : Type 0 where
-    pub insts-room : inst_limit ≤ length is
-    pub labels-room : label_records ≤ length ls
+    pub insts_room : inst_limit ≤ length is
+    pub labels_room : label_records ≤ length ls
     pub accepted : loads image ≡ accepts l
     pub count_fits : count_of l ≤ inst_limit
 
-  pub load-accepts : (l : Loaded) → load image is ls ≡ accepts l → AcceptedLoad l
+  pub load_accepts : (l : Loaded) → load image is ls ≡ accepts l → AcceptedLoad l
   unfolding load
-  load-accepts l =
+  load_accepts l =
       by_test (λ x. x ≡ accepts l → AcceptedLoad l) (ltb (length is) inst_limit || ltb (length ls) label_records) _ _ (λ _. never_both 10 l)
       (λ h e. record {
-        insts-room = ltb-false _ _ (or_left (ltb (length is) inst_limit) (ltb (length ls) label_records) h);
-        labels-room = ltb-false _ _ (or_right (ltb (length is) inst_limit) (ltb (length ls) label_records) h);
+        insts_room = ltb-false _ _ (or_left (ltb (length is) inst_limit) (ltb (length ls) label_records) h);
+        labels_room = ltb-false _ _ (or_right (ltb (length is) inst_limit) (ltb (length ls) label_records) h);
         accepted = e;
         count_fits = (parsed image l e).passes.fits;
       })

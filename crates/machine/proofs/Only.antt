@@ -27,13 +27,13 @@ ended_with f d g lacking u e = absurd (none_end u e)
 ended_with f d g (leaves l) u e = ap (λ (x : State). x.dumps) (sym (end_same (f l) u e)) ∙ g l
 
 -- what a step adds to the dumps
-stepped-dumps : (v : State) (e : Effects) (st : Stepped) (u : State) → stepped v e st ≡ end u
+stepped_dumps : (v : State) (e : Effects) (st : Stepped) (u : State) → stepped v e st ≡ end u
     → (cells : List ℕ) × (u.dumps ≡ v.dumps ++ cells) × (is_dump st ≡ true → 0 < length cells)
 unfolding stepped advance is_dump
-stepped-dumps v e (succeeds m) u h = ([], ended_with _ _ (λ l. refl) _ u h, λ x. never x)
-stepped-dumps v e (outputs c m) u h = (c ∷ [], ended_with _ _ (λ l. refl) _ u h, λ x. omega arith)
-stepped-dumps v e (trap t m) u h = ([], ended_with _ _ (λ l. refl) _ u h, λ x. never x)
-stepped-dumps v e ill u h = absurd (none_end u h)
+stepped_dumps v e (succeeds m) u h = ([], ended_with _ _ (λ l. refl) _ u h, λ x. never x)
+stepped_dumps v e (outputs c m) u h = (c ∷ [], ended_with _ _ (λ l. refl) _ u h, λ x. omega arith)
+stepped_dumps v e (trap t m) u h = ([], ended_with _ _ (λ l. refl) _ u h, λ x. never x)
+stepped_dumps v e ill u h = absurd (none_end u h)
 
 -- an ending by its tests, where the last step is no trap
 ending_of : (halted used bad : Bool) → Ending
@@ -70,7 +70,7 @@ module _ (p : Program) (s : State) where
   unfolding further
   from none u e = absurd (none_end u e)
   from (end v) u e =
-      let d = stepped-dumps v _ _ u (further_of v u e).1 in
+      let d = stepped_dumps v _ _ u (further_of v u e).1 in
       (v, refl, omega (arith, length-append v.dumps d.0, ap length d.1))
 
   -- a history has each of its beginnings, and no more dumps there
@@ -84,9 +84,9 @@ module _ (p : Program) (s : State) where
 
   module _ (q : Request) where
     -- a result's dumps are as many as it reports
-    dumps-length : (r : Result) (h : IsHistory p s q r) → length h.last.dumps ≡ length s.dumps + r.dumped
-    dumps-length r h =
-        ap length h.dumps-are ∙ length-append s.dumps _
+    dumps_length : (r : Result) (h : IsHistory p s q r) → length h.last.dumps ≡ length s.dumps + r.dumped
+    dumps_length r h =
+        ap length h.dumps_are ∙ length-append s.dumps _
         ∙ ap (λ (x : ℕ). length s.dumps + x) (length-take-le r.dumped r.buffer (rw h.size_is h.fits))
 
     module _ (r r' : Result) (h : IsHistory p s q r) (h' : IsHistory p s q r') where
@@ -97,7 +97,7 @@ module _ (p : Program) (s : State) where
           let z : r'.steps ≡ (r'.steps - suc r.steps) + suc r.steps = omega arith in
           let b = begins (suc r.steps) (r'.steps - suc r.steps) h'.last (rw z at h'.history_is) in
           let f = further_of h.last b.0 (sym (ap (further p) h.history_is) ∙ b.1) in
-          let d = stepped-dumps h.last (effects_at p h.last.machine) (step p h.last.machine) b.0 f.1 in
+          let d = stepped_dumps h.last (effects_at p h.last.machine) (step p h.last.machine) b.0 f.1 in
           by b.0 f.0 f.1 d.0 d.1 d.2 b.2 r.ending h.because
         where
           by : (v : State) → h.last.machine.halted ≡ false → stepped h.last (effects_at p h.last.machine) (step p h.last.machine) ≡ end v
@@ -111,25 +111,25 @@ module _ (p : Program) (s : State) where
               none_end v (sym (ap (stepped h.last _) w) ∙ g)
           by v n g cells d o m (Number k) (is_full e i f x y) =
               let w = o (ap (λ (x : Machine). is_dump (step p x)) (sym h.machine_is) ∙ i) in
-              omega (arith, w, f, ap length d, length-append h.last.dumps cells, dumps-length r h, dumps-length r' h', h'.fits)
-          by v n g cells d o m (Number k) (is_trap j u e x t) = omega (arith, e, (h'.trap-ends j u _ _ (omega arith) x t).0)
+              omega (arith, w, f, ap length d, length-append h.last.dumps cells, dumps_length r h, dumps_length r' h', h'.fits)
+          by v n g cells d o m (Number k) (is_trap j u e x t) = omega (arith, e, (h'.trap_ends j u _ _ (omega arith) x t).0)
 
       module _ (e : r.steps ≡ r'.steps) where
-        same-last : h.last ≡ h'.last
-        same-last = end_same _ _ (sym h.history_is ∙ ap (history p s) e ∙ h'.history_is)
+        same_last : h.last ≡ h'.last
+        same_last = end_same _ _ (sym h.history_is ∙ ap (history p s) e ∙ h'.history_is)
 
-        same-machine : r.machine ≡ r'.machine
-        same-machine = h.machine_is ∙ ap (λ (x : State). x.machine) same-last ∙ sym h'.machine_is
+        same_machine : r.machine ≡ r'.machine
+        same_machine = h.machine_is ∙ ap (λ (x : State). x.machine) same_last ∙ sym h'.machine_is
 
-        same-dumped : r.dumped ≡ r'.dumped
-        same-dumped = omega (arith, dumps-length r h, dumps-length r' h', ap (λ (x : State). length x.dumps) same-last)
+        same_dumped : r.dumped ≡ r'.dumped
+        same_dumped = omega (arith, dumps_length r h, dumps_length r' h', ap (λ (x : State). length x.dumps) same_last)
 
-        same-buffer : r.buffer ≡ r'.buffer
-        same-buffer =
+        same_buffer : r.buffer ≡ r'.buffer
+        same_buffer =
             let f : s.dumps ++ take r.dumped r.buffer ≡ s.dumps ++ take r'.dumped r'.buffer =
-            sym h.dumps-are ∙ ap (λ (x : State). x.dumps) same-last ∙ h'.dumps-are in
+            sym h.dumps_are ∙ ap (λ (x : State). x.dumps) same_last ∙ h'.dumps_are in
             let t = sym (drop-append_seam s.dumps _) ∙ ap (drop (length s.dumps)) f ∙ drop-append_seam s.dumps _ in
-            let d = h.rest_is ∙ ap (λ (n : ℕ). drop n q.buffer) same-dumped ∙ sym h'.rest_is in
+            let d = h.rest_is ∙ ap (λ (n : ℕ). drop n q.buffer) same_dumped ∙ sym h'.rest_is in
             sym (take-append-drop r.dumped r.buffer) ∙ ap (λ (x : List ℕ). x ++ drop r.dumped r.buffer) t
             ∙ ap (λ (x : List ℕ). take r'.dumped r'.buffer ++ x) d ∙ take-append-drop r'.dumped r'.buffer
 
@@ -149,27 +149,27 @@ module _ (p : Program) (s : State) where
     ending_is r X (Number n) (is_trap k u e x t) f g = g n k u refl e x t
 
     module _ (r r' : Result) (h : IsHistory p s q r) (h' : IsHistory p s q r') where
-      same-ending : r.steps ≡ r'.steps → r.ending ≡ r'.ending
-      same-ending e =
+      same_ending : r.steps ≡ r'.steps → r.ending ≡ r'.ending
+      same_ending e =
           ending_is r _ r.ending h.because
           (λ a. ending_is r' _ r'.ending h'.because
-          (λ b. a ∙ ap (λ (m : Machine). ending_by m r.steps) (same-machine r r' h h' e) ∙ ap (ending_by r'.machine) e ∙ sym b)
-          (λ n k u b x y z. (h.trap-ends k u n _ (omega arith) y z).1 ∙ sym b))
-          (λ n k u a x y z. a ∙ sym (h'.trap-ends k u n _ (omega arith) y z).1)
+          (λ b. a ∙ ap (λ (m : Machine). ending_by m r.steps) (same_machine r r' h h' e) ∙ ap (ending_by r'.machine) e ∙ sym b)
+          (λ n k u b x y z. (h.trap_ends k u n _ (omega arith) y z).1 ∙ sym b))
+          (λ n k u a x y z. a ∙ sym (h'.trap_ends k u n _ (omega arith) y z).1)
 
-      same-steps : r.steps ≡ r'.steps
-      same-steps = by (ltb r.steps r'.steps) refl (ltb r'.steps r.steps) refl
+      same_steps : r.steps ≡ r'.steps
+      same_steps = by (ltb r.steps r'.steps) refl (ltb r'.steps r.steps) refl
         where
           by : (a : Bool) → ltb r.steps r'.steps ≡ a → (b : Bool) → ltb r'.steps r.steps ≡ b → r.steps ≡ r'.steps
           by true a b c = absurd (not_longer r r' h h' (ltb-true _ _ a))
           by false a true c = absurd (not_longer r' r h' h (ltb-true _ _ c))
           by false a false c = omega (arith, ltb-false r.steps r'.steps a, ltb-false r'.steps r.steps c)
 
-      same-result : r ≡ r'
+      same_result : r ≡ r'
       unfolding made
-      same-result =
-          let e = same-steps in
-          same_made _ _ _ _ _ _ _ _ _ _ (same-machine r r' h h' e) (same-ending e) e (same-dumped r r' h h' e) (same-buffer r r' h h' e)
+      same_result =
+          let e = same_steps in
+          same_made _ _ _ _ _ _ _ _ _ _ (same_machine r r' h h' e) (same_ending e) e (same_dumped r r' h h' e) (same_buffer r r' h h' e)
 
 pub only_one : OnlyOneResult
-only_one = same-result
+only_one = same_result

@@ -104,9 +104,9 @@ slot_after [] i v = inr refl
 slot_after (x ∷ xs) zero v = inl refl
 slot_after (x ∷ xs) (suc i) v = slot_after xs i v
 
-top-after : (v : ℕ) (m : Machine) → (top (onward (replaced v m)) ≡ v) ⊎ (top (onward (replaced v m)) ≡ 0)
+top_after : (v : ℕ) (m : Machine) → (top (onward (replaced v m)) ≡ v) ⊎ (top (onward (replaced v m)) ≡ 0)
 unfolding with_stack moved
-top-after v m = slot_after m.stack _ v
+top_after v m = slot_after m.stack _ v
 
 -- Q of the machine where a step succeeds
 unfoldable After : (Machine → Type 0) → Stepped → Type 0
@@ -116,10 +116,10 @@ After Q (trap t m) = Unit {0}
 After Q ill = Unit {0}
 
 -- whatever holds of the machine with the result in its place, over all that is on its stack, holds of what a float instruction leaves
-float-leaves : (Q : Machine → Type 0) (k : Float) (m m' : Machine) → float_step k m ≡ succeeds m'
+float_leaves : (Q : Machine → Type 0) (k : Float) (m m' : Machine) → float_step k m ≡ succeeds m'
     → (2 ≤ m.height → Q (onward (replaced (of_floats k (top (popped m)) (top m)) (popped m)))) → Q m'
 unfolding float_step After
-float-leaves Q k m m' e q = subst (After Q) e (must_case (After Q) m (leb 2 m.height) 20 _ tt (λ h. q (leb-true 2 m.height h)))
+float_leaves Q k m m' e q = subst (After Q) e (must_case (After Q) m (leb 2 m.height) 20 _ tt (λ h. q (leb-true 2 m.height h)))
 
 module _ (k : Float) (m : Machine) (h : 2 ≤ m.height) where
   abbrev result : ℕ
@@ -132,23 +132,23 @@ module _ (k : Float) (m : Machine) (h : 2 ≤ m.height) where
   unfolding with_stack moved
   some_left = omega arith
 
-  quiet-left : result ≡ quiet → ConvertsToZero left
-  quiet-left q = elim (top-after result (popped m)) [
+  quiet_left : result ≡ quiet → ConvertsToZero left
+  quiet_left q = elim (top_after result (popped m)) [
     | inl e ↦ nan_to_zero left some_left (plain (top left) (e ∙ q))
     | inr e ↦ zero_to_zero left some_left e
   ]
 
   nan_left : is_nan (top left) ≡ true → ConvertsToZero left
-  nan_left n = elim (top-after result (popped m)) [
-    | inl e ↦ quiet-left (is_quiet k _ _ (subst (λ (c : ℕ). is_nan c ≡ true) e n))
+  nan_left n = elim (top_after result (popped m)) [
+    | inl e ↦ quiet_left (is_quiet k _ _ (subst (λ (c : ℕ). is_nan c ≡ true) e n))
     | inr e ↦ never (subst (λ (c : ℕ). is_nan c ≡ true) e n)
   ]
 
 pub nan_result_converts : NaNResultConverts
-nan_result_converts k m m' e = float-leaves (λ (x : Machine). is_nan (top x) ≡ true → ConvertsToZero x) k m m' e (nan_left k m)
+nan_result_converts k m m' e = float_leaves (λ (x : Machine). is_nan (top x) ≡ true → ConvertsToZero x) k m m' e (nan_left k m)
 
 pub zero_by_zero_converts : ZeroByZeroConverts
 unfolding of_floats
 zero_by_zero_converts s t m m' e x y =
     let q = (special s t 0 0 not_a_number not_a_number).zero_by_zero (top (popped m)) (top m) x y in
-    (q, float-leaves ConvertsToZero FDIV m m' e (λ h. quiet-left FDIV m h q))
+    (q, float_leaves ConvertsToZero FDIV m m' e (λ h. quiet_left FDIV m h q))

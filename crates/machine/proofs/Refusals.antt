@@ -22,39 +22,39 @@ abbrev pub Numbered : Load → Type 0
 Numbered (rejects n) = 1 ≤ n
 Numbered (accepts l) = Unit {0}
 
-one-stops : (image : List ℕ) (s : Scan) (a : Answer) → Told image s.at a → Stops (scan_one s a)
+one_stops : (image : List ℕ) (s : Scan) (a : Answer) → Told image s.at a → Stops (scan_one s a)
 unfolding scan_one
-one-stops image s (refused n) h = omega (arith, h.0)
-one-stops image s (reads i size) h = one_case Stops s i size (lit≤ tt) (lit≤ tt) (λ _ _. tt) (λ _. tt)
+one_stops image s (refused n) h = omega (arith, h.0)
+one_stops image s (reads i size) h = one_case Stops s i size (lit≤ tt) (lit≤ tt) (λ _ _. tt) (λ _. tt)
 
 then_stops : (rest : Scan → Scanned) (x : Scanned) → Stops x → ((s : Scan) → Stops (rest s)) → Stops (and_then rest x)
 unfolding and_then
 then_stops rest (stops n) h f = h
 then_stops rest (goes s) h f = f s
 
-scan-stops : (fuel : ℕ) (image : List ℕ) (s : Scan) → Stops (scan fuel image s)
+scan_stops : (fuel : ℕ) (image : List ℕ) (s : Scan) → Stops (scan fuel image s)
 unfolding scan
-scan-stops zero image s = tt
-scan-stops (suc fuel) image s =
-    by_test Stops (ltb s.at (length image)) _ _ (λ _. then_stops (scan fuel image) _ (one-stops image s _ (told image s.at)) (scan-stops fuel image)) (λ _. tt)
+scan_stops zero image s = tt
+scan_stops (suc fuel) image s =
+    by_test Stops (ltb s.at (length image)) _ _ (λ _. then_stops (scan fuel image) _ (one_stops image s _ (told image s.at)) (scan_stops fuel image)) (λ _. tt)
 
-checked-numbered : (l : Loaded) → Numbered (checked l)
+checked_numbered : (l : Loaded) → Numbered (checked l)
 unfolding checked
-checked-numbered l =
+checked_numbered l =
     by_test Numbered (ltb inst_limit (length l.insts)) _ _ (λ _. lit≤ tt) (λ _. by_test Numbered (any_native l.insts) _ _ (λ _. lit≤ tt) (λ _. tt))
 
-entered-numbered : (s : Scan) (e : Entry) → Numbered (entered s e)
+entered_numbered : (s : Scan) (e : Entry) → Numbered (entered s e)
 unfolding entered
-entered-numbered s no_entry = lit≤ tt
-entered-numbered s (entry e) = checked-numbered _
+entered_numbered s no_entry = lit≤ tt
+entered_numbered s (entry e) = checked_numbered _
 
-finished-numbered : (image : List ℕ) (x : Scanned) → Stops x → Numbered (finished image x)
+finished_numbered : (image : List ℕ) (x : Scanned) → Stops x → Numbered (finished image x)
 unfolding finished
-finished-numbered image (stops n) h = h
-finished-numbered image (goes s) h = entered-numbered s (last_of image start_name no_entry (drop 1 s.labels))
+finished_numbered image (stops n) h = h
+finished_numbered image (goes s) h = entered_numbered s (last_of image start_name no_entry (drop 1 s.labels))
 
-pub load-numbered : (image : List ℕ) (insts : List Inst) (labels : List Label) → Numbered (load image insts labels)
+pub load_numbered : (image : List ℕ) (insts : List Inst) (labels : List Label) → Numbered (load image insts labels)
 unfolding load loads
-load-numbered image insts labels =
+load_numbered image insts labels =
     by_test Numbered (ltb (length insts) inst_limit || ltb (length labels) label_records) _ _ (λ _. lit≤ tt)
-    (λ _. by_test Numbered (ltb image_limit (length image)) _ _ (λ _. lit≤ tt) (λ _. finished-numbered image _ (scan-stops (length image) image begin)))
+    (λ _. by_test Numbered (ltb image_limit (length image)) _ _ (λ _. lit≤ tt) (λ _. finished_numbered image _ (scan_stops (length image) image begin)))

@@ -26,17 +26,17 @@ use Rattle.machine.specs.History.{State, initial, History, none, end, stepped, p
 use Rattle.machine.specs.Statements.{Request, runs, last_machine, total_steps, all_dumped, is_ill_lem, is_full, is_trap, Because, AllBelow, Counted, Below, AllKept, RunsFrom, loaded_program, RunsAreOneHistory, NamesLeadToLast}
 use Rattle.inst.proofs.Laws.{never}
 use Rattle.machine.proofs.Lists.{filled}
-use Rattle.machine.proofs.Loads.{AcceptedLoad, load-accepts}
+use Rattle.machine.proofs.Loads.{AcceptedLoad, load_accepts}
 use Rattle.machine.proofs.Does.{Does, step_does, traps_leave}
 use Rattle.machine.proofs.Sound.{Sound, counted, below, Ahead, at_halt, ahead, stepped_sound}
 use Rattle.machine.proofs.Valid.{Valid, valid}
-use Rattle.machine.proofs.Tables.{padded, Inside, name-inside, lookup_is, name-found, inst_is, well_state_lem, step_is}
+use Rattle.machine.proofs.Tables.{padded, Inside, name_inside, lookup_is, name_found, inst_is, well_state_lem, step_is}
 use Rattle.machine.proofs.Histories.{end_same, none_end, Joined, joins, front}
 use Rattle.machine.proofs.Only.{begins}
 
 -- only HALT may be the last instruction
 ahead_of : (count : ℕ) (m : Machine) (i : Inst) (b : Bool) → is_halt i ≡ b → (b ≡ false → m.ip + 1 < count)
-    → Ahead count m (effects (op_of i.typ)).on-calls (touches i m (op_of i.typ)).pointer
+    → Ahead count m (effects (op_of i.typ)).on_calls (touches i m (op_of i.typ)).pointer
 unfolding op_of effects touches
 ahead_of count m i true e f = rw e at_halt
 ahead_of count m i false e f = ahead (f refl)
@@ -63,10 +63,10 @@ module _ (image : List ℕ) (l : Loaded) (v : Valid image l) where
         height_is = refl;
         height_fits = omega arith;
         called = record {
-          addresses-are = refl;
+          addresses_are = refl;
           addresses_below = tt;
           pointer_below = v.start_is.0.0;
-          calls-size = length-replicate {A = ℕ} call_limit 0;
+          calls_size = length-replicate {A = ℕ} call_limit 0;
           call_height_fits = omega arith;
         };
       }
@@ -89,7 +89,7 @@ module _ (image : List ℕ) (l : Loaded) (v : Valid image l) where
       lent_tables = padded image l is ls
 
       inside : Inside count (found_at lent_tables m)
-      inside = rw (lookup_is image l v is ls) (name-inside image l v (inst_at lent_tables m))
+      inside = rw (lookup_is image l v is ls) (name_inside image l v (inst_at lent_tables m))
 
       padded_does : Does ⊥ (effects_at lent_tables m) (touches_at lent_tables m) (found_at lent_tables m) m (step lent_tables m)
       unfolding Inside
@@ -101,11 +101,11 @@ module _ (image : List ℕ) (l : Loaded) (v : Valid image l) where
     does : Does ⊥ (effects_at P m) (touches_at P m) (found_at P m) m (step P m)
     does = subst (λ (p : Program). Does ⊥ (effects_at p m) (touches_at p m) (found_at p m) m (step p m)) P-is (padded_does [] [])
 
-    leads-inside : (t : ℕ) → found_at P m ≡ leads_to t → t < count
+    leads_inside : (t : ℕ) → found_at P m ≡ leads_to t → t < count
     unfolding Inside
-    leads-inside t e = subst (Inside count) e (subst (λ (p : Program). Inside count (found_at p m)) P-is (inside [] []))
+    leads_inside t e = subst (Inside count) e (subst (λ (p : Program). Inside count (found_at p m)) P-is (inside [] []))
 
-    goes_on : Ahead count m (effects_at P m).on-calls (touches_at P m).pointer
+    goes_on : Ahead count m (effects_at P m).on_calls (touches_at P m).pointer
     goes_on = ahead_of count m (inst_at P m) (is_halt (inst_at P m)) refl (λ e. rw add-one (v.halts_last m.ip pointer_below e))
 
     same_inst : (is : List Inst) (ls : List Label) → inst_at (padded image l is ls) m ≡ inst_at P m
@@ -118,9 +118,9 @@ module _ (image : List ℕ) (l : Loaded) (v : Valid image l) where
         ∙ ap (λ (p : Program). step p m) P-is
 
     -- so one step more of a history is the same over both
-    same-further : (is : List Inst) (ls : List Label) → further (padded image l is ls) (end s) ≡ further P (end s)
+    same_further : (is : List Inst) (ls : List Label) → further (padded image l is ls) (end s) ≡ further P (end s)
     unfolding further
-    same-further is ls =
+    same_further is ls =
         let e : effects_at (padded image l is ls) m ≡ effects_at P m = ap (λ (i : Inst). effects (op_of i.typ)) (same_inst is ls) in
         rw (same_step is ls, e)
 
@@ -131,7 +131,7 @@ module _ (image : List ℕ) (l : Loaded) (v : Valid image l) where
         by : (b : Bool) → cond b none (stepped s (effects_at P m) (step P m)) ≡ end u → Sound count u
         by true f = absurd (none_end u f)
         by false f =
-            let d = stepped_sound count s h (effects_at P m) (touches_at P m) (found_at P m) goes_on leads-inside (step P m) does in
+            let d = stepped_sound count s h (effects_at P m) (touches_at P m) (found_at P m) goes_on leads_inside (step P m) does in
             subst (Sound count) (end_same d.0 u (sym d.1 ∙ f)) d.2
 
   from_sound : (k : History) (u : State) → ((s : State) → k ≡ end s → Sound count s) → further P k ≡ end u → Sound count u
@@ -160,18 +160,18 @@ module _ (image : List ℕ) (l : Loaded) (v : Valid image l) where
     same_from : (k : History) → ((s : State) → k ≡ end s → Sound count s) → further Q k ≡ further P k
     unfolding further
     same_from none f = refl
-    same_from (end s) f = same-further s (f s refl) is ls
+    same_from (end s) f = same_further s (f s refl) is ls
 
-    same-history : (n : ℕ) → history Q first n ≡ history P first n
+    same_history : (n : ℕ) → history Q first n ≡ history P first n
     unfolding history
-    same-history zero = refl
-    same-history (suc n) = ap (further Q) (same-history n) ∙ same_from (history P first n) (history_sound n)
+    same_history zero = refl
+    same_history (suc n) = ap (further Q) (same_history n) ∙ same_from (history P first n) (history_sound n)
 
     -- no run from a point of the history ends with 34
     not_ill : (steps limit dumped room : ℕ) (last : State) → history Q first steps ≡ end last → Because Q first steps limit dumped room last.machine (Number 34) → ⊥
     unfolding Because Does
     not_ill steps limit dumped room last q (is_ill_lem e i h k) =
-        rw i at (padded_does last (history_sound steps last (sym (same-history steps) ∙ q)) is ls)
+        rw i at (padded_does last (history_sound steps last (sym (same_history steps) ∙ q)) is ls)
     not_ill steps limit dumped room last q (is_full e i f h k) = omega arith
     not_ill steps limit dumped room last q (is_trap k u e h t) = omega (arith, (traps_leave Q u.machine 34 last.machine t).number_to)
 
@@ -180,7 +180,7 @@ module _ (image : List ℕ) (l : Loaded) (v : Valid image l) where
       last : State
       history_is : history Q first (n + total_steps rs) ≡ end last
       machine_is : last.machine ≡ last_machine s.machine rs
-      dumps-are : last.dumps ≡ s.dumps ++ all_dumped rs
+      dumps_are : last.dumps ≡ s.dumps ++ all_dumped rs
       all_kept : AllKept qs rs
 
     chained_cons : (n : ℕ) (s : State) (q : Request) (qs : List Request) (r : Course) (rs : List Result)
@@ -191,7 +191,7 @@ module _ (image : List ℕ) (l : Loaded) (v : Valid image l) where
           last = t.last;
           history_is = rw (← add_assoc) t.history_is;
           machine_is = t.machine_is ∙ ap (λ (x : Machine). last_machine x rs) j.machine_is;
-          dumps-are = t.dumps-are ∙ ap (λ (x : List ℕ). x ++ all_dumped rs) j.dumps-are ∙ append_assoc s.dumps r.cells (all_dumped rs)
+          dumps_are = t.dumps_are ∙ ap (λ (x : List ℕ). x ++ all_dumped rs) j.dumps_are ∙ append_assoc s.dumps r.cells (all_dumped rs)
               ∙ ap (λ (x : List ℕ). s.dumps ++ (x ++ all_dumped rs)) (sym (front r.cells q.buffer j.fits));
           all_kept = (
             record {
@@ -208,7 +208,7 @@ module _ (image : List ℕ) (l : Loaded) (v : Valid image l) where
     chained : (qs : List Request) (rs : List Result) (n : ℕ) (s : State) → history Q first n ≡ end s → height_of_calls s.machine ≡ length s.open_calls
         → RunsFrom Q s.machine qs rs → Chained n s qs rs
     unfolding RunsFrom run reported total_steps last_machine all_dumped AllKept
-    chained [] [] n s e k w = record { last = s; history_is = rw add-zero e; machine_is = refl; dumps-are = sym (append-nil s.dumps); all_kept = tt }
+    chained [] [] n s e k w = record { last = s; history_is = rw add-zero e; machine_is = refl; dumps_are = sym (append-nil s.dumps); all_kept = tt }
     chained [] (r ∷ rs) n s e k w = absurd w
     chained (q ∷ qs) [] n s e k w = absurd w
     chained (q ∷ qs) (r ∷ rs) n s e k w =
@@ -220,11 +220,11 @@ module _ (image : List ℕ) (l : Loaded) (v : Valid image l) where
 
 -- an accepted image, and what its runs are lent
 module _ (image : List ℕ) (insts : List Inst) (labels : List Label) (l : Loaded) (bytes : Bytes image) (e : load image insts labels ≡ accepts l) where
-  accepted-load : AcceptedLoad image insts labels l
-  accepted-load = load-accepts image insts labels l e
+  accepted_load : AcceptedLoad image insts labels l
+  accepted_load = load_accepts image insts labels l e
 
   accepted : Valid image l
-  accepted = valid image l bytes accepted-load.accepted
+  accepted = valid image l bytes accepted_load.accepted
 
   abbrev is' : List Inst
   is' = drop (count_of l) insts
@@ -236,9 +236,9 @@ module _ (image : List ℕ) (insts : List Inst) (labels : List Label) (l : Loade
   unfolding loaded_program insts_after labels_after
   lent_is =
       let c = accepted.chain in
-      let is = filled l.insts insts (omega (arith, accepted-load.count_fits, accepted-load.insts-room)) in
-      let size : length l.labels ≤ label_records = rw c.labels-are c.fit in
-      let ls = filled l.labels labels (omega (arith, accepted-load.labels-room)) in
+      let is = filled l.insts insts (omega (arith, accepted_load.count_fits, accepted_load.insts_room)) in
+      let size : length l.labels ≤ label_records = rw c.labels_are c.fit in
+      let ls = filled l.labels labels (omega (arith, accepted_load.labels_room)) in
       rw (is, ls)
 
 -- the runs of a list are an instance
@@ -255,12 +255,12 @@ runs_are_one_history image insts labels l bytes e qs rs w =
     let ls = ls' image insts labels l bytes e in
     let t = chained image l v is ls qs rs 0 (initial (fresh l)) refl refl (subst (λ (p : Program). RunsFrom p (fresh l) qs rs) (lent_is image insts labels l bytes e) w) in
     let h : history (program_of image l) (initial (fresh l)) (total_steps rs) ≡ end t.last =
-    sym (same-history image l v is ls (total_steps rs)) ∙ (rw zero-add at t.history_is) in
+    sym (same_history image l v is ls (total_steps rs)) ∙ (rw zero-add at t.history_is) in
     record {
       last = t.last;
       history_is = h;
       machine_is = t.machine_is;
-      dumps-are = t.dumps-are;
+      dumps_are = t.dumps_are;
       always = everywhere image l v _ t.last h;
       all_kept = t.all_kept;
     }
@@ -269,5 +269,5 @@ pub names_lead_to_last : NamesLeadToLast
 unfolding fresh
 names_lead_to_last image insts labels l bytes e =
     let v = accepted image insts labels l bytes e in
-    let names = name-found image l v (is' image insts labels l bytes e) (ls' image insts labels l bytes e) in
+    let names = name_found image l v (is' image insts labels l bytes e) (ls' image insts labels l bytes e) in
     record { names = λ i. rw (lent_is image insts labels l bytes e) (names i); start = v.start_is }

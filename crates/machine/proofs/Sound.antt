@@ -26,10 +26,10 @@ use Rattle.machine.proofs.Does.{CallsAre, Moves, Room, Does}
 
 -- the pointer and the call stack of m, where the calls l are open
 pub record Called (count : ℕ) (m : Machine) (l : List ℕ) : Type 0 where
-  pub addresses-are : addresses m ≡ map suc l
+  pub addresses_are : addresses m ≡ map suc l
   pub addresses_below : AllBelow count (addresses m)
   pub pointer_below : m.ip < count
-  pub calls-size : length m.calls ≡ call_limit
+  pub calls_size : length m.calls ≡ call_limit
   pub call_height_fits : height_of_calls m ≤ call_limit
 
 pub record Sound (count : ℕ) (s : State) : Type 0 where
@@ -38,7 +38,7 @@ pub record Sound (count : ℕ) (s : State) : Type 0 where
   pub called : Called count s.machine s.open_calls
 
 pub counted : (count : ℕ) (s : State) → Sound count s → Counted s
-counted count s h = record { height_is = h.height_is; addresses-are = h.called.addresses-are }
+counted count s h = record { height_is = h.height_is; addresses_are = h.called.addresses_are }
 
 pub below : (count : ℕ) (s : State) → Sound count s → Below count s.machine
 below count s h = record { pointer_below = h.called.pointer_below; addresses_below = h.called.addresses_below }
@@ -57,10 +57,10 @@ module _ (count : ℕ) where
     alike : (m' : Machine) → m'.calls ≡ m.calls → height_of_calls m' ≡ height_of_calls m → In m'.ip → Called count m' l
     alike m' c d i =
         record {
-          addresses-are = rw (c, d) h.addresses-are;
+          addresses_are = rw (c, d) h.addresses_are;
           addresses_below = rw (c, d) h.addresses_below;
           pointer_below = i;
-          calls-size = rw c h.calls-size;
+          calls_size = rw c h.calls_size;
           call_height_fits = rw d h.call_height_fits;
         }
 
@@ -69,12 +69,12 @@ module _ (count : ℕ) where
         → In (m.ip + 1) → In m'.ip → Called count m' (l ++ (m.ip ∷ []))
     deeper m' r c d a i =
         let q : addresses m' ≡ addresses m ++ ((m.ip + 1) ∷ []) =
-        rw (c, d, add-one (height_of_calls m)) (take-suc-set m.calls (height_of_calls m) (m.ip + 1) (rw h.calls-size r)) in
+        rw (c, d, add-one (height_of_calls m)) (take-suc-set m.calls (height_of_calls m) (m.ip + 1) (rw h.calls_size r)) in
         record {
-          addresses-are = q ∙ rw (map_snoc, h.addresses-are, add-one);
+          addresses_are = q ∙ rw (map_snoc, h.addresses_are, add-one);
           addresses_below = rw q (below_snoc _ _ _ h.addresses_below a);
           pointer_below = i;
-          calls-size = rw (c, length-set) h.calls-size;
+          calls_size = rw (c, length-set) h.calls_size;
           call_height_fits = rw d (omega arith);
         }
 
@@ -84,13 +84,13 @@ module _ (count : ℕ) where
         let f = m.calls in
         let k = height_of_calls m - 1 in
         let z : suc k ≡ height_of_calls m = omega arith in
-        let fits : k < length f = rw h.calls-size (omega (arith, h.call_height_fits)) in
+        let fits : k < length f = rw h.calls_size (omega (arith, h.call_height_fits)) in
         let q : addresses m' ≡ drop_last (addresses m) = rw (c, d) (sym (rw z at (drop_last-take f k fits))) in
         record {
-          addresses-are = q ∙ ap drop_last h.addresses-are ∙ sym (map-drop_last l);
+          addresses_are = q ∙ ap drop_last h.addresses_are ∙ sym (map-drop_last l);
           addresses_below = rw q (below_drop_last _ _ h.addresses_below);
           pointer_below = i;
-          calls-size = rw c h.calls-size;
+          calls_size = rw c h.calls_size;
           call_height_fits = rw d (omega (arith, h.call_height_fits));
         }
 
@@ -105,11 +105,11 @@ module _ (count : ℕ) where
     pointer_in k (to_label false) found m' (ahead a) f p = rw p.2 a
     pointer_in k to_popped found m' (ahead a) f p =
         let j = height_of_calls m - 1 in
-        let n : j < length (addresses m) = rw length-take (omega (arith, p.0, h.calls-size, h.call_height_fits)) in
+        let n : j < length (addresses m) = rw length-take (omega (arith, p.0, h.calls_size, h.call_height_fits)) in
         rw p.1 (rw (get_or-take (height_of_calls m) m.calls j 0 (omega (arith, p.0))) at (below_get_d _ _ _ h.addresses_below n))
 
-    one-past : (q : Pointer) → Ahead count m opens q → In (m.ip + 1)
-    one-past q (ahead a) = a
+    one_past : (q : Pointer) → Ahead count m opens q → In (m.ip + 1)
+    one_past q (ahead a) = a
 
     -- the open calls that are left
     abbrev Leaves : Calls → Outcome → Machine → Type 0
@@ -129,43 +129,43 @@ module _ (count : ℕ) where
         → Leaves k (trapped t) m'
     unfolding Room open_calls_after
     called_trap keeps q t m' a c i r = (_, refl, called_other (eqb t 27) m' c i r)
-    called_trap opens q t m' a c i r = (_, refl, called_27 (eqb t 27) m' c i (λ e. (r e, one-past q a)))
+    called_trap opens q t m' a c i r = (_, refl, called_27 (eqb t 27) m' c i (λ e. (r e, one_past q a)))
     called_trap closes q t m' a c i r = (_, refl, called_other (eqb t 27) m' c i r)
 
   called_next : (m : Machine) (l : List ℕ) (h : Called count m l) (k : Calls) (q : Pointer) (m' : Machine) → Ahead count m k q → CallsAre k m m' → In m'.ip
       → Leaves m l h k untrapped m'
   unfolding CallsAre open_calls_after
   called_next m l h keeps q m' a c i = (_, refl, alike m l h m' c.0 c.1 i)
-  called_next m l h opens q m' a c i = (_, refl, deeper m l h m' c.0 c.1 c.2 (one-past m l h q a) i)
-  called_next m [] h closes q m' a c i = absurd (omega (arith, c.0, rw length-take at (ap length h.addresses-are), h.calls-size, h.call_height_fits))
+  called_next m l h opens q m' a c i = (_, refl, deeper m l h m' c.0 c.1 c.2 (one_past m l h q a) i)
+  called_next m [] h closes q m' a c i = absurd (omega (arith, c.0, rw length-take at (ap length h.addresses_are), h.calls_size, h.call_height_fits))
   called_next m (x ∷ l) h closes q m' a c i = (_, refl, shallower m (x ∷ l) h m' c.0 c.1 c.2 i)
 
-  module _ (s : State) (h : Sound count s) (e : Effects) (w : Touches) (found : Found) (a : Ahead count s.machine e.on-calls w.pointer)
+  module _ (s : State) (h : Sound count s) (e : Effects) (w : Touches) (found : Found) (a : Ahead count s.machine e.on_calls w.pointer)
       (f : (t : ℕ) → found ≡ leads_to t → In t) where
     -- the history goes on, and soundly
     abbrev Goes : Outcome → Machine → List ℕ → Type 0
     Goes o m' cells = (u : State) × (advance s e o m' cells ≡ end u) × Sound count u
 
     goes : (o : Outcome) (m' : Machine) (cells : List ℕ) → s.height +ℤ effect e o ≡ pos m'.height → m'.height ≤ stack_limit
-        → Leaves s.machine s.open_calls h.called e.on-calls o m' → Goes o m' cells
+        → Leaves s.machine s.open_calls h.called e.on_calls o m' → Goes o m' cells
     unfolding advance end_with
     goes o m' cells i j c = (_, ap (end_with _) c.1, record { height_is = i; height_fits = j; called = c.2 })
 
     moves_sound : (m' : Machine) (cells : List ℕ) → Moves e w found s.machine cells m' → Goes untrapped m' cells
     unfolding effect
     moves_sound m' cells d =
-        let i = pointer_in s.machine s.open_calls h.called e.on-calls w.pointer found m' a f d.touched.pointer_is in
+        let i = pointer_in s.machine s.open_calls h.called e.on_calls w.pointer found m' a f d.touched.pointer_is in
         goes untrapped m' cells (rw h.height_is (sym d.touched.height_is)) (d.limited h.height_fits)
-        (called_next s.machine s.open_calls h.called e.on-calls w.pointer m' a d.called i)
+        (called_next s.machine s.open_calls h.called e.on_calls w.pointer m' a d.called i)
 
-    trap_sound : (t : ℕ) (m' : Machine) → TrapLeft e t s.machine m' → Room e.on-calls t s.machine → Goes (trapped t) m' []
+    trap_sound : (t : ℕ) (m' : Machine) → TrapLeft e t s.machine m' → Room e.on_calls t s.machine → Goes (trapped t) m' []
     unfolding effect
     trap_sound t m' d r =
         let m = s.machine in
         goes (trapped t) m' []
         (ap (λ (x : ℤ). x +ℤ neg_ℤ (pos (lost e t))) h.height_is ∙ sym (less_by m.height (lost e t) d.enough) ∙ ap pos (sym d.height_is))
         (rw d.height_is (omega (arith, h.height_fits)))
-        (called_trap m s.open_calls h.called e.on-calls w.pointer t m' a d.calls_are d.pointer_is r)
+        (called_trap m s.open_calls h.called e.on_calls w.pointer t m' a d.calls_are d.pointer_is r)
 
     pub stepped_sound : (r : Stepped) → Does ⊥ e w found s.machine r → (u : State) × (stepped s e r ≡ end u) × Sound count u
     unfolding Does stepped

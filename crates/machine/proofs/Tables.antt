@@ -95,31 +95,31 @@ module _ (image : List ℕ) (l : Loaded) (v : Valid image l) where
   abbrev pub find_name : Inst → Found
   find_name i = find image (part image i.start i.len) v.chain.defined (length v.chain.defined)
 
-  pub name-inside : (i : Inst) → Inside (count_of l) (find_name i)
-  name-inside i = find_inside image _ (count_of l) v.chain.defined v.chain.definitions _ (omega arith)
+  pub name_inside : (i : Inst) → Inside (count_of l) (find_name i)
+  name_inside i = find_inside image _ (count_of l) v.chain.defined v.chain.definitions _ (omega arith)
 
   module _ (is : List Inst) (ls : List Label) where
     abbrev p : Program
     p = padded image l is ls
 
     filled : (i : ℕ) → i < length v.chain.defined → label_at p (suc i) ≡ get_or v.chain.defined i (head 0)
-    filled i h = rw v.chain.labels-are (get_or-append v.chain.defined ls (head 0) i h)
+    filled i h = rw v.chain.labels_are (get_or-append v.chain.defined ls (head 0) i h)
 
     pub lookup_is : (i : Inst) → lookup p i ≡ find_name i
     unfolding lookup lookup_from
     lookup_is i =
         let d = v.chain.defined in
-        let size : length (l.labels ++ ls) ≡ suc (length d) + length ls = length-append l.labels ls ∙ ap (λ (x : List Label). length x + length ls) v.chain.labels-are in
+        let size : length (l.labels ++ ls) ≡ suc (length d) + length ls = length-append l.labels ls ∙ ap (λ (x : List Label). length x + length ls) v.chain.labels_are in
         let w = walk_finds image (part image i.start i.len) p d refl v.chain.definitions filled (length d) (length p.labels) (length p.labels) (omega arith) (omega arith) (omega arith) in
-        ap (λ (x : List Label). lookup_from p (part image i.start i.len) (x ++ ls)) v.chain.labels-are ∙ w
+        ap (λ (x : List Label). lookup_from p (part image i.start i.len) (x ++ ls)) v.chain.labels_are ∙ w
 
     -- to the last definition
-    pub name-found : (i : Inst) → FindsLast image l.insts (part image i.start i.len) (lookup p i)
-    name-found i =
+    pub name_found : (i : Inst) → FindsLast image l.insts (part image i.start i.len) (lookup p i)
+    name_found i =
         let name = part image i.start i.len in
         rw (lookup_is i)
-        (finds_last image name (count_of l) l.insts _ (name-inside i)
-        (subst (LastIs image l.insts name) (last_found image name v.chain.defined no_entry) (v.chain.last-are name)))
+        (finds_last image name (count_of l) l.insts _ (name_inside i)
+        (subst (LastIs image l.insts name) (last_found image name v.chain.defined no_entry) (v.chain.last_are name)))
 
     pub inst_is : (m : Machine) → m.ip < count_of l → inst_at p m ≡ get_or l.insts m.ip halt
     inst_is m h = get_or-append l.insts is halt m.ip h

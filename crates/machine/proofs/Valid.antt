@@ -37,10 +37,10 @@ LastIs image insts wanted (entry t) = DefinesLast image insts wanted t
 
 pub record Chain (image : List ℕ) (insts : List Inst) (labels : List Label) : Type 0 where
   pub defined : List Label
-  pub labels-are : labels ≡ head (length defined) ∷ defined
+  pub labels_are : labels ≡ head (length defined) ∷ defined
   pub fit : length defined < label_records
   pub definitions : (i : ℕ) → i < length defined → Definition image (length insts) i (get_or defined i (head 0))
-  pub last-are : (wanted : List ℕ) → LastIs image insts wanted (last_of image wanted no_entry defined)
+  pub last_are : (wanted : List ℕ) → LastIs image insts wanted (last_of image wanted no_entry defined)
 
 pub record Valid (image : List ℕ) (l : Loaded) : Type 0 where
   pub well : all_well_formed image l.insts ≡ true
@@ -56,13 +56,13 @@ module _ (image : List ℕ) where
   well_snoc [] i h w = both _ _ w refl
   well_snoc (j ∷ is) i h w = both _ _ (and_left (well_formed image j) _ h) (well_snoc is i (and_right (well_formed image j) _ h) w)
 
-  halt-well : well_formed image halt ≡ true
+  halt_well : well_formed image halt ≡ true
   unfolding well_formed form_of has_none has_eight has_one has_name fits
-  halt-well = refl
+  halt_well = refl
 
-  well-closed : (is : List Inst) → all_well_formed image is ≡ true → all_well_formed image (closed is) ≡ true
+  well_closed : (is : List Inst) → all_well_formed image is ≡ true → all_well_formed image (closed is) ≡ true
   unfolding closed
-  well-closed is h = by_test (λ js. all_well_formed image js ≡ true) (last_is_halt is) _ _ (λ _. h) (λ _. well_snoc is halt h halt-well)
+  well_closed is h = by_test (λ js. all_well_formed image js ≡ true) (last_is_halt is) _ _ (λ _. h) (λ _. well_snoc is halt h halt_well)
 
   pub well_at : (is : List Inst) (i : ℕ) → all_well_formed image is ≡ true → i < length is → well_formed image (get_or is i halt) ≡ true
   unfolding all_well_formed
@@ -79,15 +79,15 @@ not_last (j ∷ []) (suc i) e l h = absurd (not-suc-le-zero (le_of_suc-le-suc l)
 not_last (j ∷ k ∷ is) zero e l h = omega arith
 not_last (j ∷ k ∷ is) (suc i) e l h = let r = not_last (k ∷ is) i e (le_of_suc-le-suc l) h in omega arith
 
-halt-last : (is : List Inst) → last_is_halt (is ++ (halt ∷ [])) ≡ true
+halt_last : (is : List Inst) → last_is_halt (is ++ (halt ∷ [])) ≡ true
 unfolding last_is_halt
-halt-last [] = refl
-halt-last (i ∷ []) = refl
-halt-last (i ∷ j ∷ is) = halt-last (j ∷ is)
+halt_last [] = refl
+halt_last (i ∷ []) = refl
+halt_last (i ∷ j ∷ is) = halt_last (j ∷ is)
 
 pub closed_halts : (is : List Inst) → last_is_halt (closed is) ≡ true
 unfolding closed
-closed_halts is = by_test (λ js. last_is_halt js ≡ true) (last_is_halt is) _ _ (λ e. e) (λ _. halt-last is)
+closed_halts is = by_test (λ js. last_is_halt js ≡ true) (last_is_halt is) _ _ (λ e. e) (λ _. halt_last is)
 
 -- two names are the same bytes
 same_is : (xs ys : List ℕ) → same xs ys ≡ true → xs ≡ ys
@@ -128,10 +128,10 @@ module _ (image : List ℕ) (is : List Inst) (i : Inst) where
         absurd (n (rw (get_or_at is i [] halt k z) at d.1))
 
     -- i is no definition of the name
-    last-kept : (Labels image wanted i → ⊥) → (e : Entry) → LastIs image is wanted e → LastIs image longer wanted e
+    last_kept : (Labels image wanted i → ⊥) → (e : Entry) → LastIs image is wanted e → LastIs image longer wanted e
     unfolding LastIs
-    last-kept n no_entry h = λ k d. h k (old_or_new k d _ refl n)
-    last-kept n (entry t) h = (kept t h.0, λ j l d. h.1 j l (old_or_new j d _ refl n))
+    last_kept n no_entry h = λ k d. h k (old_or_new k d _ refl n)
+    last_kept n (entry t) h = (kept t h.0, λ j l d. h.1 j l (old_or_new j d _ refl n))
 
     -- i is one, the last
     last_new : Labels image wanted i → LastIs image longer wanted (entry (length is))
@@ -148,15 +148,15 @@ chain_more : (image : List ℕ) (is : List Inst) (i : Inst) (labels : List Label
 chain_more image is i labels n c =
     record {
       defined = c.defined;
-      labels-are = c.labels-are;
+      labels_are = c.labels_are;
       fit = c.fit;
       definitions = λ j l. more image _ _ j _ (rw (size image is i) (omega arith)) (c.definitions j l);
-      last-are = λ wanted. last-kept image is i wanted (λ l. eqb-false i.typ 21 n l.is_label_lem) _ (c.last-are wanted);
+      last_are = λ wanted. last_kept image is i wanted (λ l. eqb-false i.typ 21 n l.is_label_lem) _ (c.last_are wanted);
     }
 
-label-name : (image : List ℕ) (i : Inst) → is_label i ≡ true → well_formed image i ≡ true → name_in image i.start i.len ≡ true
+label_name : (image : List ℕ) (i : Inst) → is_label i ≡ true → well_formed image i ≡ true → name_in image i.start i.len ≡ true
 unfolding well_formed form_of has_none has_eight has_one has_name fits
-label-name image i e w =
+label_name image i e w =
     let z : form_of i.typ ≡ name = ap form_of (eqb-true i.typ 21 e) in
     and_right (eqb i.val 0) _ (subst (λ (f : Form). fits image i f ≡ true) z w)
 
@@ -181,7 +181,7 @@ module _ (image : List ℕ) (is : List Inst) (i : Inst) (label : is_label i ≡ 
       rw (last_snoc image wanted no_entry d (new k))
       (by_test (LastIs image (is ++ (i ∷ [])) wanted) (same wanted (name_of image (new k))) _ _
       (λ e. last_new image is i wanted (record { is_label_lem = eqb-true i.typ 21 label; name_is = sym (same_is wanted _ e) }))
-      (λ e. last-kept image is i wanted (λ l. never (sym e ∙ (rw l.name_is (same_self wanted)))) _ h))
+      (λ e. last_kept image is i wanted (λ l. never (sym e ∙ (rw l.name_is (same_self wanted)))) _ h))
 
   -- linked first: it stands last in the table and leads to the one before
   chain_linked : (labels : List Label) → Chain image is labels → leb label_records (length labels) ≡ false
@@ -192,10 +192,10 @@ module _ (image : List ℕ) (is : List Inst) (i : Inst) (label : is_label i ≡ 
       let size : length (d ++ (new (length d) ∷ [])) ≡ suc (length d) = length-append d (new (length d) ∷ []) ∙ add-one (length d) in
       record {
         defined = d ++ (new (length d) ∷ []);
-        labels-are = rw (c.labels-are, size);
-        fit = rw size (leb-false label_records (suc (length d)) (rw c.labels-are at f));
+        labels_are = rw (c.labels_are, size);
+        fit = rw size (leb-false label_records (suc (length d)) (rw c.labels_are at f));
         definitions = λ j h. new_definitions d c.definitions j (rw size at h) (ltb j (length d)) refl;
-        last-are = λ wanted. new_last d (length d) wanted (c.last-are wanted);
+        last_are = λ wanted. new_last d (length d) wanted (c.last_are wanted);
       }
 
 -- reading
@@ -220,7 +220,7 @@ module _ (image : List ℕ) (bytes : Bytes image) where
   one_good s (reads i size) g t =
       let w = t.formed bytes in
       one_case (GoodScanned image) s i size tt tt
-      (λ e f. added_good s i size _ g w (chain_linked image s.insts i e (label-name image i e w) s.labels g.chain f))
+      (λ e f. added_good s i size _ g w (chain_linked image s.insts i e (label_name image i e w) s.labels g.chain f))
       (λ e. added_good s i size _ g w (chain_more image s.insts i _ e g.chain))
 
   then_good : (rest : Scan → Scanned) → ((s : Scan) → Good image s → GoodScanned image (rest s)) → (r : Scanned) → GoodScanned image r
@@ -242,7 +242,7 @@ module _ (image : List ℕ) (bytes : Bytes image) where
   begin_good =
       record {
         well = refl;
-        chain = record { defined = []; labels-are = refl; fit = omega arith; definitions = λ i l. absurd (not-suc-le-zero l); last-are = λ wanted k d. not-suc-le-zero d.0 };
+        chain = record { defined = []; labels_are = refl; fit = omega arith; definitions = λ i l. absurd (not-suc-le-zero l); last_are = λ wanted k d. not-suc-le-zero d.0 };
       }
 
 -- after the last byte
@@ -265,11 +265,11 @@ module _ (image : List ℕ) where
       by_test (GoodLoad image) (ltb inst_limit n) _ _ (λ _. tt) λ _.
       by_test (GoodLoad image) (any_native (closed s.insts)) _ (accepts _) (λ _. tt) λ _.
       record {
-        well = well-closed image s.insts g.well;
+        well = well_closed image s.insts g.well;
         halts_last = λ i. not_last (closed s.insts) i (closed_halts s.insts);
         chain = c;
         start_is = subst (LastIs image (closed s.insts) start_name)
-            (ap (λ (d : List Label). last_of image start_name no_entry (drop 1 d)) (sym c.labels-are) ∙ q) (c.last-are start_name);
+            (ap (λ (d : List Label). last_of image start_name no_entry (drop 1 d)) (sym c.labels_are) ∙ q) (c.last_are start_name);
       }
 
   finished_good : (r : Scanned) → GoodScanned image r → GoodLoad image (finished image r)

@@ -21,10 +21,10 @@ pub record Effects : Type 0 where
   pub gain : ℤ
   pub loss : ℕ
   pub traps : List ℕ
-  pub on-calls : Calls
+  pub on_calls : Calls
 
 abbrev pub listed : ℤ → ℕ → List ℕ → Calls → Effects
-listed g n ts c = record { gain = g; loss = n; traps = ts; on-calls = c }
+listed g n ts c = record { gain = g; loss = n; traps = ts; on_calls = c }
 
 -- PUSH, DUP, BOT +1; POP, CMP, the eight arithmetic operations -1; WRITE -2; others 0. Trapping: 24, 30, 31 of arithmetic -1;
 -- 28, 29, 31 of conversions -1; 25 of READ -1, of WRITE -2; other traps 0

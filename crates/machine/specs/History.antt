@@ -32,7 +32,7 @@ end_with state (leaves l) = end (state l)
 unfoldable pub advance : State → Effects → Outcome → Machine → List ℕ → History
 advance s e o m cells =
     end_with (λ (l : List ℕ). record { machine = m; height = s.height +ℤ effect e o; open_calls = l; dumps = s.dumps ++ cells })
-    (open_calls_after e.on-calls o s.machine.ip s.open_calls)
+    (open_calls_after e.on_calls o s.machine.ip s.open_calls)
 
 -- always with room for a dump; none where 34 holds
 unfoldable pub stepped : State → Effects → Stepped → History

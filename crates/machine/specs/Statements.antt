@@ -43,13 +43,13 @@ pub record IsHistory (p : Program) (s : State) (q : Request) (r : Result) : Type
   pub history_is : history p s r.steps ≡ end last
   pub machine_is : r.machine ≡ last.machine
   pub size_is : length r.buffer ≡ length q.buffer
-  pub dumps-are : last.dumps ≡ s.dumps ++ take r.dumped r.buffer
+  pub dumps_are : last.dumps ≡ s.dumps ++ take r.dumped r.buffer
   pub rest_is : drop r.dumped r.buffer ≡ drop r.dumped q.buffer
   pub within : r.steps ≤ q.limit
   pub fits : r.dumped ≤ length q.buffer
   pub because : Because p s r.steps q.limit r.dumped (length q.buffer) r.machine r.ending
   -- a step that traps is the last of the run, which ends with its number
-  pub trap-ends : (k : ℕ) (u : State) (t : ℕ) (m : Machine) → k < r.steps → history p s k ≡ end u → step p u.machine ≡ trap t m
+  pub trap_ends : (k : ℕ) (u : State) (t : ℕ) (m : Machine) → k < r.steps → history p s k ≡ end u → step p u.machine ≡ trap t m
       → (suc k ≡ r.steps) × (r.ending ≡ Number t)
 
 -- of every run, from every state with as many open calls as its machine has return addresses
@@ -86,7 +86,7 @@ addresses m = take (height_of_calls m) m.calls
 -- at a point of the history, what is counted is the machine's: its height, and the return addresses are one past the open calls
 pub record Counted (s : State) : Type 0 where
   pub height_is : s.height ≡ pos s.machine.height
-  pub addresses-are : addresses s.machine ≡ map suc s.open_calls
+  pub addresses_are : addresses s.machine ≡ map suc s.open_calls
 
 unfoldable pub AllBelow : ℕ → List ℕ → Type 0
 AllBelow n [] = Unit {0}
@@ -117,7 +117,7 @@ pub record OneHistory (image : List ℕ) (l : Loaded) (qs : List Request) (rs : 
   pub last : State
   pub history_is : history (program_of image l) (initial (fresh l)) (total_steps rs) ≡ end last
   pub machine_is : last.machine ≡ last_machine (fresh l) rs
-  pub dumps-are : last.dumps ≡ all_dumped rs
+  pub dumps_are : last.dumps ≡ all_dumped rs
   pub always : (k : ℕ) → k ≤ total_steps rs
       → (s : State) × (history (program_of image l) (initial (fresh l)) k ≡ end s) × Counted s × Below (count_of l) s.machine
   pub all_kept : AllKept qs rs

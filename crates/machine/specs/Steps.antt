@@ -23,7 +23,7 @@ pub record TrapLeft (e : Effects) (t : ℕ) (m m' : Machine) : Type 0 where
   pub stack_is : m'.stack ≡ m.stack
   pub calls_are : CallsLeft (eqb t 27) m m'
   pub memory_is : m'.memory ≡ m.memory
-  pub flags-are : m'.flags ≡ m.flags
+  pub flags_are : m'.flags ≡ m.flags
   pub pointer_is : m'.ip ≡ m.ip
   pub halted_is : m'.halted ≡ m.halted
 
@@ -38,7 +38,7 @@ is_one_of (j ∷ js) i = eqb i j || is_one_of js i
 -- ys has as many slots as xs, and differs from it in these at most
 pub record Except (slots xs ys : List ℕ) : Type 0 where
   pub size_is : length ys ≡ length xs
-  pub others-are : (i : ℕ) → is_one_of slots i ≡ false → get_or ys i 0 ≡ get_or xs i 0
+  pub others_are : (i : ℕ) → is_one_of slots i ≡ false → get_or ys i 0 ≡ get_or xs i 0
 
 -- the pointer of m' is where it is listed to go from m, where a lookup would find `found`
 unfoldable pub PointerIs : Pointer → Found → Machine → Machine → Type 0
@@ -50,13 +50,13 @@ PointerIs stays found m m' = m'.ip ≡ m.ip
 -- m' differs from m in what is listed at most, its heights by the listed effects, and its pointer is where it is listed to go; `dumped` is as listed
 pub record Touched (e : Effects) (w : Touches) (found : Found) (m : Machine) (dumped : List ℕ) (m' : Machine) : Type 0 where
   pub height_is : pos m'.height ≡ pos m.height +ℤ e.gain
-  pub call_height_is : pos (height_of_calls m') ≡ pos (height_of_calls m) +ℤ call_gain e.on-calls
+  pub call_height_is : pos (height_of_calls m') ≡ pos (height_of_calls m) +ℤ call_gain e.on_calls
   pub stack_is : Except w.stack m.stack m'.stack
   pub calls_are : Except w.calls m.calls m'.calls
   pub memory_is : Except w.memory m.memory m'.memory
-  pub flags-are : w.flags ≡ false → m'.flags ≡ m.flags
+  pub flags_are : w.flags ≡ false → m'.flags ≡ m.flags
   pub halted_is : m'.halted ≡ (w.halted || m.halted)
-  pub dumps-are : dumped ≡ map (λ (j : ℕ). get_or m.stack j 0) w.dumps
+  pub dumps_are : dumped ≡ map (λ (j : ℕ). get_or m.stack j 0) w.dumps
   pub pointer_is : PointerIs w.pointer found m m'
 
 -- what is listed for the instruction at the pointer, and what the lookup of its name would find

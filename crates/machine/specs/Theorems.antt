@@ -6,7 +6,7 @@ use Rattle.machine.specs.Marks.{marks, all_hold}
 use Rattle.machine.specs.PlainNaN.{TypesOfNaNs, PlainNaNs, NaNResultConverts, ZeroByZeroConverts}
 
 pub record Theorems : Type 0 where
-  pub one-history : RunsAreOneHistory
+  pub one_history : RunsAreOneHistory
   pub runs : RunsAreHistories
   pub only_one : OnlyOneResult
   pub traps_leave : TrapsLeave

@@ -16,7 +16,7 @@ use Rattle.machine.specs.Change.{height_of_calls}
 use Rattle.tables.specs.Tables.{numbers_in, bytes_of}
 use Rattle.tables.proofs.Bytes.{length_bytes}
 use Rattle.machine_bytes.specs.Layout.{Sized, calls_at, memory_at, height_at, call_height_at, ip_at, flags_at, halted_at, machine_size, is_machine, machine_of, machine_bytes}
-use Rattle.machine_bytes.proofs.Fields.{length-arrays, three}
+use Rattle.machine_bytes.proofs.Fields.{length_arrays, three}
 
 numbers_back : (vs : List ℕ) → numbers_in (bytes_of vs) ≡ vs
 unfolding numbers_in bytes_of eight_of
@@ -29,16 +29,16 @@ part_is xs ys zs from to f t =
     let n : length ys ≡ to - from = omega arith in
     sym (slice_of from to (xs ++ (ys ++ zs))) ∙ ap (take (to - from)) (drop_at xs (ys ++ zs) from f) ∙ take_at ys zs (to - from) n
 
-length-eight : (v : ℕ) → length (eight_of v) ≡ 8
+length_eight : (v : ℕ) → length (eight_of v) ≡ 8
 unfolding eight_of
-length-eight v = refl
+length_eight v = refl
 
 eight_back : (v : ℕ) → little_endian (eight_of v) ≡ v
 unfolding eight_of
 eight_back v = number_back v
 
 number_is : (xs zs : List ℕ) (v at : ℕ) → length xs ≡ at → word (xs ++ (eight_of v ++ zs)) at ≡ v
-number_is xs zs v at f = ap little_endian (part_is xs (eight_of v) zs at (at + 8) f (ap (λ (n : ℕ). at + n) (length-eight v))) ∙ eight_back v
+number_is xs zs v at f = ap little_endian (part_is xs (eight_of v) zs at (at + 8) f (ap (λ (n : ℕ). at + n) (length_eight v))) ∙ eight_back v
 
 halted_back : (b : Bool) → eqb (cond b 1 0) 1 ≡ b
 halted_back true = refl
@@ -49,10 +49,10 @@ below_two true = refl
 below_two false = refl
 
 -- field by field
-same-machine : (m : Machine) (s : List ℕ) (h : ℕ) (ca : List ℕ) (ch : ℕ) (me : List ℕ) (f ip : ℕ) (b : Bool) → s ≡ m.stack → h ≡ m.height → ca ≡ m.calls → ch ≡ height_of_calls m
+same_machine : (m : Machine) (s : List ℕ) (h : ℕ) (ca : List ℕ) (ch : ℕ) (me : List ℕ) (f ip : ℕ) (b : Bool) → s ≡ m.stack → h ≡ m.height → ca ≡ m.calls → ch ≡ height_of_calls m
     → me ≡ m.memory → f ≡ m.flags → ip ≡ m.ip → b ≡ m.halted
     → record { stack = s; height = h; calls = ca; call_height = ch; memory = me; flags = f; ip = ip; halted = b } ≡ m
-same-machine m s h ca ch me f ip b e1 e2 e3 e4 e5 e6 e7 e8 = rw (e1, e2, e3, e4, e5, e6, e7, e8) refl
+same_machine m s h ca ch me f ip b e1 e2 e3 e4 e5 e6 e7 e8 = rw (e1, e2, e3, e4, e5, e6, e7, e8) refl
 
 -- the bytes of m, cut before and behind each field
 module _ (m : Machine) (s : Sized m) where
@@ -72,16 +72,16 @@ module _ (m : Machine) (s : Sized m) where
   all = front ++ numbers ++ rest
 
   front_long : length front ≡ height_at
-  front_long = length-arrays m.stack m.calls m.memory s.stack-long s.calls-long s.memory-long
+  front_long = length_arrays m.stack m.calls m.memory s.stack_long s.calls_long s.memory_long
 
-  numbers-long : length numbers ≡ 24
-  numbers-long = length_bytes (m.height ∷ height_of_calls m ∷ m.ip ∷ [])
+  numbers_long : length numbers ≡ 24
+  numbers_long = length_bytes (m.height ∷ height_of_calls m ∷ m.ip ∷ [])
 
   before_flags : length (front ++ numbers) ≡ flags_at
-  before_flags = length-append front numbers ∙ omega (arith, front_long, numbers-long)
+  before_flags = length-append front numbers ∙ omega (arith, front_long, numbers_long)
 
   stacks_long : length (bytes_of m.stack ++ bytes_of m.calls) ≡ memory_at
-  stacks_long = length-append (bytes_of m.stack) (bytes_of m.calls) ∙ omega (arith, length_bytes m.stack, length_bytes m.calls, s.stack-long, s.calls-long)
+  stacks_long = length-append (bytes_of m.stack) (bytes_of m.calls) ∙ omega (arith, length_bytes m.stack, length_bytes m.calls, s.stack_long, s.calls_long)
 
   at_memory : all ≡ (bytes_of m.stack ++ bytes_of m.calls) ++ (m.memory ++ (numbers ++ rest))
   unfolding all
@@ -101,27 +101,27 @@ module _ (m : Machine) (s : Sized m) where
   at_ip = at_call_height ∙ sym (append_assoc (front ++ eight_of m.height) (eight_of (height_of_calls m)) (eight_of m.ip ++ rest))
 
   before_call_height : length (front ++ eight_of m.height) ≡ call_height_at
-  before_call_height = length-append front (eight_of m.height) ∙ omega (arith, front_long, length-eight m.height)
+  before_call_height = length-append front (eight_of m.height) ∙ omega (arith, front_long, length_eight m.height)
 
   before_ip : length (front ++ eight_of m.height ++ eight_of (height_of_calls m)) ≡ ip_at
-  before_ip = length-append (front ++ eight_of m.height) (eight_of (height_of_calls m)) ∙ omega (arith, before_call_height, length-eight (height_of_calls m))
+  before_ip = length-append (front ++ eight_of m.height) (eight_of (height_of_calls m)) ∙ omega (arith, before_call_height, length_eight (height_of_calls m))
 
   stack_back : numbers_in (slice 0 calls_at all) ≡ m.stack
   stack_back =
       ap (λ (x : List ℕ). numbers_in (slice 0 calls_at x)) at_calls
-      ∙ ap numbers_in (part_is [] (bytes_of m.stack) _ 0 calls_at refl (omega (arith, length_bytes m.stack, s.stack-long)))
+      ∙ ap numbers_in (part_is [] (bytes_of m.stack) _ 0 calls_at refl (omega (arith, length_bytes m.stack, s.stack_long)))
       ∙ numbers_back m.stack
 
   calls_back : numbers_in (slice calls_at memory_at all) ≡ m.calls
   calls_back =
       ap (λ (x : List ℕ). numbers_in (slice calls_at memory_at x)) at_calls
-      ∙ ap numbers_in (part_is (bytes_of m.stack) (bytes_of m.calls) _ calls_at memory_at (omega (arith, length_bytes m.stack, s.stack-long)) (omega (arith, length_bytes m.calls, s.calls-long)))
+      ∙ ap numbers_in (part_is (bytes_of m.stack) (bytes_of m.calls) _ calls_at memory_at (omega (arith, length_bytes m.stack, s.stack_long)) (omega (arith, length_bytes m.calls, s.calls_long)))
       ∙ numbers_back m.calls
 
   memory_back : slice memory_at height_at all ≡ m.memory
   memory_back =
       ap (slice memory_at height_at) at_memory
-      ∙ part_is (bytes_of m.stack ++ bytes_of m.calls) m.memory (numbers ++ rest) memory_at height_at stacks_long (omega (arith, s.memory-long))
+      ∙ part_is (bytes_of m.stack ++ bytes_of m.calls) m.memory (numbers ++ rest) memory_at height_at stacks_long (omega (arith, s.memory_long))
 
   height_back : word all height_at ≡ m.height
   height_back = ap (λ (x : List ℕ). word x height_at) at_height ∙ number_is front _ m.height height_at front_long
@@ -152,4 +152,4 @@ module _ (m : Machine) (s : Sized m) where
 
   pub machine_back : machine_of (machine_bytes m) ≡ m
   unfolding machine_of machine_bytes all rest halted
-  machine_back = same-machine m _ _ _ _ _ _ _ _ stack_back height_back calls_back call_height_back memory_back flags_back ip_back (ap (λ (n : ℕ). eqb n 1) halted_is ∙ halted_back m.halted)
+  machine_back = same_machine m _ _ _ _ _ _ _ _ stack_back height_back calls_back call_height_back memory_back flags_back ip_back (ap (λ (n : ℕ). eqb n 1) halted_is ∙ halted_back m.halted)

@@ -53,9 +53,9 @@ one_more xs bs at i h =
     ∙ ap (λ (zs : List ℕ). sets bs at (ys ++ zs)) (sym (one (get_or xs i 0)))
     ∙ ap (sets bs at) (sym (bytes_append (take i xs) (get_or xs i 0 ∷ [])) ∙ ap bytes_of (sym (rw add-one (take-suc xs i 0 h))))
 
-pub wrote-more : (xs bs₀ : List ℕ) (at : ℕ) (bs : List ℕ) (i : ℕ) (bs' : List ℕ) → Wrote xs bs₀ at bs i → i < length xs → bs' ≡ sets bs (at + i * 8) (eight_of (get_or xs i 0))
+pub wrote_more : (xs bs₀ : List ℕ) (at : ℕ) (bs : List ℕ) (i : ℕ) (bs' : List ℕ) → Wrote xs bs₀ at bs i → i < length xs → bs' ≡ sets bs (at + i * 8) (eight_of (get_or xs i 0))
     → Wrote xs bs₀ at bs' (i + 1)
-wrote-more xs bs₀ at bs i bs' w h e =
+wrote_more xs bs₀ at bs i bs' w h e =
     record {
       is = e ∙ ap (λ (ys : List ℕ). sets ys (at + i * 8) (eight_of (get_or xs i 0))) w.is ∙ one_more xs bs₀ at i h;
       long = ap length e ∙ length-sets bs (at + i * 8) (eight_of (get_or xs i 0)) ∙ w.long;

@@ -11,14 +11,14 @@ use Rattle.inst.proofs.Laws.{sets_more}
 use Rattle.machine.specs.Limits.{stack_limit, call_limit, memory_size}
 use Rattle.tables.specs.Tables.{bytes_of}
 use Rattle.tables.proofs.Bytes.{length_bytes, stored_more}
-use Rattle.inst.proofs.Parts.{lent-whole, sets-whole}
+use Rattle.inst.proofs.Parts.{lent_whole, sets_whole}
 use Rattle.step_core.specs.declared.Registers.{Registers}
 use Rattle.step_core.specs.Parts.{height_of_calls, of_parts}
 use Rattle.machine_bytes.specs.Layout.{calls_at, memory_at, height_at, call_height_at, ip_at, flags_at, halted_at, machine_size, machine_bytes}
 
 -- the memory's part
-pub part-long : (m : List ℕ) → length m ≡ machine_size → length (take (height_at - memory_at) (drop memory_at m)) ≡ memory_size
-part-long m h = length-take-le memory_size (drop memory_at m) (omega (arith, length-drop memory_at m))
+pub part_long : (m : List ℕ) → length m ≡ machine_size → length (take (height_at - memory_at) (drop memory_at m)) ≡ memory_size
+part_long m h = length-take-le memory_size (drop memory_at m) (omega (arith, length-drop memory_at m))
 
 -- the arrays
 module _ (s ca me : List ℕ) (ls : length s ≡ stack_limit) (lc : length ca ≡ call_limit) (lm : length me ≡ memory_size) where
@@ -28,8 +28,8 @@ module _ (s ca me : List ℕ) (ls : length s ≡ stack_limit) (lc : length ca �
   pub length_stacks : length stacks ≡ memory_at
   length_stacks = length-append (bytes_of s) (bytes_of ca) ∙ omega (arith, length_bytes s, length_bytes ca)
 
-  pub length-arrays : length (stacks ++ me) ≡ height_at
-  length-arrays = length-append stacks me ∙ omega (arith, length_stacks)
+  pub length_arrays : length (stacks ++ me) ≡ height_at
+  length_arrays = length-append stacks me ∙ omega (arith, length_stacks)
 
   pub arrays_stored : (m m1 m2 ys : List ℕ) → length m ≡ machine_size → m1 ≡ sets m 0 (bytes_of s) → m2 ≡ sets m1 calls_at (bytes_of ca)
       → ys ≡ me
@@ -41,7 +41,7 @@ module _ (s ca me : List ℕ) (ls : length s ≡ stack_limit) (lc : length ca �
       q ∙ ap (λ (x : List ℕ). sets x calls_at (bytes_of ca)) p ∙ ap (λ (n : ℕ). sets (sets m 0 (bytes_of s)) n (bytes_of ca)) k ∙ sets_more (bytes_of s) m (bytes_of ca) 0 in
       let size : length m2 ≡ machine_size = ap length both ∙ length-sets m 0 stacks ∙ long in
       let last : length ys ≡ memory_size = ap length r ∙ lm in
-      lent-whole m2 ys memory_at height_at (omega arith) (omega arith) last
+      lent_whole m2 ys memory_at height_at (omega arith) (omega arith) last
       ∙ ap (λ (x : List ℕ). sets x memory_at ys) both
       ∙ ap (λ (x : List ℕ). sets (sets m 0 stacks) memory_at x) r
       ∙ ap (λ (n : ℕ). sets (sets m 0 stacks) n me) w
@@ -86,5 +86,5 @@ parts_stored c f halted m s ca me m1 m2 long p n q =
     ∙ ap (λ (x : List ℕ). sets x height_at (numbers ++ rest)) p
     ∙ ap (λ (i : ℕ). sets (sets m 0 front) i (numbers ++ rest)) k
     ∙ sets_more front m (numbers ++ rest) 0
-    ∙ sets-whole m (front ++ (numbers ++ rest)) size
+    ∙ sets_whole m (front ++ (numbers ++ rest)) size
     ∙ sym (append_assoc front numbers rest)

@@ -57,9 +57,9 @@ machine_bytes m =
 
 -- arrays of the sizes that the code's types give them
 pub record Sized (m : Machine) : Type 0 where
-  pub stack-long : length m.stack ≡ stack_limit
-  pub calls-long : length m.calls ≡ call_limit
-  pub memory-long : length m.memory ≡ memory_size
+  pub stack_long : length m.stack ≡ stack_limit
+  pub calls_long : length m.calls ≡ call_limit
+  pub memory_long : length m.memory ≡ memory_size
 
 -- the bytes of a machine are a machine's, and stand for it
 pub record Crosses : Type 0 where

@@ -7,7 +7,7 @@ use native.Mathlib.Omega.{arith}
 use lib.Dec.{eqb}
 use lib.ListN.{length}
 use Rattle.machine.specs.Load.{Loaded, Load, rejects, accepts}
-use Rattle.machine.proofs.Refusals.{Numbered, load-numbered}
+use Rattle.machine.proofs.Refusals.{Numbered, load_numbered}
 use Rattle.tables.specs.Tables.{insts_of, labels_of}
 use Rattle.loader.specs.Loading.{load_of}
 use Rattle.machine_bytes.specs.Layout.{machine_size}
@@ -20,8 +20,8 @@ accepted_by false o insts labels machine r n e z = absurd (omega (arith, ap (λ 
 accepted_by true (rejects k) insts labels machine r n e z = absurd (omega (arith, ap (λ (a : LoadCall). a.number) e))
 accepted_by true (accepts l) insts labels machine r n e z = (l, refl, e)
 
-pub load-accepted : (image insts labels machine : List ℕ) (r : LoadCall) → load_call image insts labels machine ≡ r → r.number ≡ 0
+pub load_accepted : (image insts labels machine : List ℕ) (r : LoadCall) → load_call image insts labels machine ≡ r → r.number ≡ 0
     → (l : Loaded) × (load_of image insts labels ≡ accepts l) × (loaded_by (accepts l) insts labels machine ≡ r)
 unfolding load_call
-load-accepted image insts labels machine r e z =
-    accepted_by (eqb (length machine) machine_size) (load_of image insts labels) insts labels machine r (load-numbered image (insts_of insts) (labels_of labels)) e z
+load_accepted image insts labels machine r e z =
+    accepted_by (eqb (length machine) machine_size) (load_of image insts labels) insts labels machine r (load_numbered image (insts_of insts) (labels_of labels)) e z

@@ -35,20 +35,20 @@ module _ (insts labels machine : List ℕ) where
   accepted_by (accepts l) ip count e = cc
 
 module _ (image insts labels machine : List ℕ) (r : Loading) (insts' labels' : List ℕ) (sized : length machine ≡ machine_size) (f : FromBinary image insts labels r insts' labels') where
-  pub load-refused : (n : ℕ) → r ≡ Refused n → load_call image insts labels machine ≡ record { number = n; count = 0; insts = insts'; labels = labels'; machine = machine }
+  pub load_refused : (n : ℕ) → r ≡ Refused n → load_call image insts labels machine ≡ record { number = n; count = 0; insts = insts'; labels = labels'; machine = machine }
   unfolding load_call
-  load-refused n e = rw (eq-eqb _ _ sized, f.insts-are, f.labels-are) (refused_by insts labels machine _ n (rw e at f.answers))
+  load_refused n e = rw (eq-eqb _ _ sized, f.insts_are, f.labels_are) (refused_by insts labels machine _ n (rw e at f.answers))
 
-  pub load-accepted : (ip count : ℕ) (m : Machine) (machine' : List ℕ) → r ≡ Accepted ip count → m ≡ fresh_at ip → machine' ≡ machine_bytes m →
+  pub load_accepted : (ip count : ℕ) (m : Machine) (machine' : List ℕ) → r ≡ Accepted ip count → m ≡ fresh_at ip → machine' ≡ machine_bytes m →
       load_call image insts labels machine ≡ record { number = 0; count = count; insts = insts'; labels = labels'; machine = machine' }
   unfolding load_call
-  load-accepted ip count m machine' e g w =
-      rw (eq-eqb _ _ sized, f.insts-are, f.labels-are, w, g) (accepted_by insts labels machine _ ip count (rw e at f.answers))
+  load_accepted ip count m machine' e g w =
+      rw (eq-eqb _ _ sized, f.insts_are, f.labels_are, w, g) (accepted_by insts labels machine _ ip count (rw e at f.answers))
 
 -- what the test of a machine tells
-pub machine-long : (bytes : List ℕ) → is_machine bytes ≡ true → length bytes ≡ machine_size
+pub machine_long : (bytes : List ℕ) → is_machine bytes ≡ true → length bytes ≡ machine_size
 unfolding is_machine
-machine-long bytes h = eqb-true _ _ (and_left (eqb (length bytes) machine_size) _ h)
+machine_long bytes h = eqb-true _ _ (and_left (eqb (length bytes) machine_size) _ h)
 
 -- the parts that were read are the machine that is lent
 pub read_is : (bytes : List ℕ) (c : Registers) (f : ℕ) (h : Bool) (s ca me : List ℕ) → (s ≡ (machine_of bytes).stack) × (ca ≡ (machine_of bytes).calls) × (me ≡ (machine_of bytes).memory)

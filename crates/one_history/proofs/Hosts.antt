@@ -15,18 +15,18 @@ use Rattle.machine.specs.Statements.{RunsFrom, loaded_program}
 use Rattle.machine.proofs.Runs.{runs_are_one_history}
 use Rattle.tables.specs.Tables.{insts_of, labels_of, numbers_in, program}
 use Rattle.loader.specs.Loading.{insts_left, labels_left}
-use Rattle.loader.proofs.Left.{insts-left, labels-left}
+use Rattle.loader.proofs.Left.{insts_left_lem, labels_left_lem}
 use Rattle.run.specs.Runs.{run_bytes}
 use Rattle.run.proofs.Cells.{cells, in_cells}
 use Rattle.c_answers.specs.Endings.{ending_number}
 use Rattle.machine_bytes.specs.Layout.{machine_of, machine_bytes, Sized}
 use Rattle.machine_bytes.proofs.Back.{is_machine_lem, machine_back}
 use Rattle.mm_host.specs.Calls.{LoadCall, RunCall, loaded_by, load_call, no_machine, ran_by, run_call}
-use Rattle.mm_host.proofs.Accepted.{load-accepted}
+use Rattle.mm_host.proofs.Accepted.{load_accepted}
 use Rattle.label_run.specs.Runs as runs
 use Rattle.one_history.specs.Host.{HostRun, HostRuns, Ran, RanInPlace, host_request, host_result, NoneIs, HostHistory, HostCallsAreOneHistory, InPlaceHostCallsAreOneHistory}
-use Rattle.one_history.proofs.Keeps.{Told, run-sized, run_told, crosses, never_50}
-use Rattle.one_history.proofs.Records.{load-labels}
+use Rattle.one_history.proofs.Keeps.{Told, run_sized, run_told, crosses, never_50}
+use Rattle.one_history.proofs.Records.{load_labels}
 
 -- a run's answer that crossed is the run's
 crossed : {M : Type 0} (read : M → Machine) (c : HostRun M) (r : Result) → c.ending ≡ ending_number r.ending → c.steps ≡ r.steps → c.dumped ≡ r.dumped
@@ -39,9 +39,9 @@ module _ (p : Program) where
   ending_told limit dumps x =
       subst Told (ap (λ (r : Result). r.ending) (sym (in_cells p limit dumps x (run_bytes p limit dumps x) refl))) (run_told p x (record { limit = limit; buffer = numbers_in dumps }))
 
-  machine-sized : (limit : ℕ) (dumps : List ℕ) (x : Machine) → Sized x → Sized (run_bytes p limit dumps x).machine
-  machine-sized limit dumps x s =
-      subst Sized (ap (λ (r : Result). r.machine) (sym (in_cells p limit dumps x (run_bytes p limit dumps x) refl))) (run-sized p x (record { limit = limit; buffer = numbers_in dumps }) s)
+  machine_sized : (limit : ℕ) (dumps : List ℕ) (x : Machine) → Sized x → Sized (run_bytes p limit dumps x).machine
+  machine_sized limit dumps x s =
+      subst Sized (ap (λ (r : Result). r.machine) (sym (in_cells p limit dumps x (run_bytes p limit dumps x) refl))) (run_sized p x (record { limit = limit; buffer = numbers_in dumps }) s)
 
   -- runs whose answers crossed, from the machine x
   abbrev pub Crossed : {M : Type 0} → (M → Machine) → Machine → List (HostRun M) → Type 0
@@ -77,7 +77,7 @@ module _ (image insts labels : List ℕ) (count : ℕ) where
       let r = run_bytes p c.limit c.lent x in
       let q : ran_by r ≡ record { ending = c.ending; steps = c.steps; dumped = c.dumped; machine = c.machine; dumps = c.left } =
       sym (run_is x c.limit c.lent s) ∙ ap (λ (b : List ℕ). run_call image insts labels count b c.limit c.lent) (sym e) ∙ h.0 in
-      let sized = machine-sized p c.limit c.lent x s in
+      let sized = machine_sized p c.limit c.lent x s in
       let m : c.machine ≡ machine_bytes r.machine = sym (ap (λ (a : RunCall). a.machine) q) in
       one_more p machine_of x c cs
       (sym (ap (λ (a : RunCall). a.ending) q))
@@ -105,43 +105,43 @@ module _ (image insts : List ℕ) (labels : List Label) (count : ℕ) where
       (sym (ap (λ (a : runs.RunCall). a.dumps) h.0))
       (in_place (run_bytes q c.limit c.lent x).machine cs (subst (λ (y : Machine). HostRuns (RanInPlace image insts labels count) y cs) m h.1))
 
-fresh-sized : (l : Loaded) → Sized (fresh l)
+fresh_sized : (l : Loaded) → Sized (fresh l)
 unfolding fresh
-fresh-sized l = record { stack-long = length-replicate {A = ℕ} stack_limit 0; calls-long = length-replicate {A = ℕ} call_limit 0; memory-long = length-replicate {A = ℕ} memory_size 0 }
+fresh_sized l = record { stack_long = length-replicate {A = ℕ} stack_limit 0; calls_long = length-replicate {A = ℕ} call_limit 0; memory_long = length-replicate {A = ℕ} memory_size 0 }
 
 -- the program of what the load left
-left-program : (image : List ℕ) (insts : List Inst) (labels : List Label) (l : Loaded) (is : List Inst) (ls : List Label) (n : ℕ) → is ≡ insts_after (accepts l) insts → ls ≡ labels_after (accepts l) labels
+left_program : (image : List ℕ) (insts : List Inst) (labels : List Label) (l : Loaded) (is : List Inst) (ls : List Label) (n : ℕ) → is ≡ insts_after (accepts l) insts → ls ≡ labels_after (accepts l) labels
     → n ≡ count_of l → record { image = image; insts = is; labels = ls; count = n } ≡ loaded_program image insts labels l
 unfolding loaded_program
-left-program image insts labels l is ls n i j k = rw (i, j, k)
+left_program image insts labels l is ls n i j k = rw (i, j, k)
 
 -- crossed runs over what the load left, from its fresh machine
-one-history : {M : Type 0} (read : M → Machine) (image : List ℕ) (insts : List Inst) (labels : List Label) (l : Loaded) (p : Program) → Bytes image → load image insts labels ≡ accepts l → p ≡ loaded_program image insts labels l
+one_history : {M : Type 0} (read : M → Machine) (image : List ℕ) (insts : List Inst) (labels : List Label) (l : Loaded) (p : Program) → Bytes image → load image insts labels ≡ accepts l → p ≡ loaded_program image insts labels l
     → (cs : List (HostRun M)) → Crossed p read (fresh l) cs → HostHistory image (load image insts labels) read cs
-one-history read image insts labels l p bytes e q cs h =
+one_history read image insts labels l p bytes e q cs h =
     record {
-      one-history = (l, e, runs_are_one_history image insts labels l bytes e _ _ (subst (λ (r : Program). RunsFrom r (fresh l) (map host_request cs) (map (host_result read) cs)) q h.0));
+      one_history = (l, e, runs_are_one_history image insts labels l bytes e _ _ (subst (λ (r : Program). RunsFrom r (fresh l) (map host_request cs) (map (host_result read) cs)) q h.0));
       never_50 = h.1;
     }
 
 pub host_calls_are_one_history : HostCallsAreOneHistory
 unfolding load_call loaded_by
 host_calls_are_one_history image insts labels machine r bytes e z cs h =
-    let a = load-accepted image insts labels machine r e z in
+    let a = load_accepted image insts labels machine r e z in
     let l = a.0 in
     let f = a.2 in
     let i : r.insts ≡ insts_left (accepts l) insts = sym (ap (λ (x : LoadCall). x.insts) f) in
     let j : r.labels ≡ labels_left (accepts l) labels = sym (ap (λ (x : LoadCall). x.labels) f) in
     let n : r.count ≡ count_of l = sym (ap (λ (x : LoadCall). x.count) f) in
     let m : r.machine ≡ machine_bytes (fresh l) = sym (ap (λ (x : LoadCall). x.machine) f) in
-    let q = left-program image (insts_of insts) (labels_of labels) l _ _ _ (ap insts_of i ∙ insts-left (accepts l) insts) (ap labels_of j ∙ labels-left (accepts l) labels) n in
-    one-history machine_of image (insts_of insts) (labels_of labels) l _ bytes a.1 q cs
-    (by_bytes image r.insts r.labels r.count (fresh l) r.machine cs (fresh-sized l) m h)
+    let q = left_program image (insts_of insts) (labels_of labels) l _ _ _ (ap insts_of i ∙ insts_left_lem (accepts l) insts) (ap labels_of j ∙ labels_left_lem (accepts l) labels) n in
+    one_history machine_of image (insts_of insts) (labels_of labels) l _ bytes a.1 q cs
+    (by_bytes image r.insts r.labels r.count (fresh l) r.machine cs (fresh_sized l) m h)
 
 pub in_place_host_calls_are_one_history : InPlaceHostCallsAreOneHistory
 in_place_host_calls_are_one_history image insts labels r bytes e z cs h =
-    let a = load-labels image insts labels r e z in
+    let a = load_labels image insts labels r e z in
     let l = a.loaded in
-    let q = left-program image (insts_of insts) labels l _ _ _ a.insts-are a.labels-are a.count_is in
-    one-history (λ x. x) image (insts_of insts) labels l _ bytes a.accepted q cs
+    let q = left_program image (insts_of insts) labels l _ _ _ a.insts_are a.labels_are a.count_is in
+    one_history (λ x. x) image (insts_of insts) labels l _ bytes a.accepted q cs
     (in_place image r.insts r.labels r.count (fresh l) cs (subst (λ (y : Machine). HostRuns (RanInPlace image r.insts r.labels r.count) y cs) a.machine_is h))

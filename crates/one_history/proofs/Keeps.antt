@@ -28,18 +28,18 @@ use Rattle.mm_host.specs.Calls.{no_machine}
 use Rattle.one_history.specs.Host.{ending_of}
 
 same_sizes : (m m' : Machine) → Sized m → length m'.stack ≡ length m.stack → length m'.calls ≡ length m.calls → length m'.memory ≡ length m.memory → Sized m'
-same_sizes m m' s a b c = record { stack-long = a ∙ s.stack-long; calls-long = b ∙ s.calls-long; memory-long = c ∙ s.memory-long }
+same_sizes m m' s a b c = record { stack_long = a ∙ s.stack_long; calls_long = b ∙ s.calls_long; memory_long = c ∙ s.memory_long }
 
 touched : (e : Effects) (w : Touches) (f : Found) (m : Machine) (cells : List ℕ) (m' : Machine) → Sized m → Touched e w f m cells m' → Sized m'
 touched e w f m cells m' s h = same_sizes m m' s h.stack_is.size_is h.calls_are.size_is h.memory_is.size_is
 
-calls-left : (b : Bool) (m m' : Machine) → CallsLeft b m m' → length m'.calls ≡ length m.calls
+calls_left : (b : Bool) (m m' : Machine) → CallsLeft b m m' → length m'.calls ≡ length m.calls
 unfolding CallsLeft
-calls-left true m m' h = ap length h.0 ∙ length-set m.calls (height_of_calls m) (m.ip + 1)
-calls-left false m m' h = ap length h.0
+calls_left true m m' h = ap length h.0 ∙ length-set m.calls (height_of_calls m) (m.ip + 1)
+calls_left false m m' h = ap length h.0
 
 left : (e : Effects) (t : ℕ) (m m' : Machine) → Sized m → TrapLeft e t m m' → Sized m'
-left e t m m' s h = same_sizes m m' s (ap length h.stack_is) (calls-left (eqb t 27) m m' h.calls_are) (ap length h.memory_is)
+left e t m m' s h = same_sizes m m' s (ap length h.stack_is) (calls_left (eqb t 27) m m' h.calls_are) (ap length h.memory_is)
 
 -- there is no history to go on with
 unreached : {A : Type 0} (u : State) → none ≡ end u → A
@@ -60,31 +60,31 @@ all_open m = sym (length-replicate {A = ℕ} (height_of_calls m) 0)
 
 -- along a history
 module _ (p : Program) where
-  after-step : (v u : State) → Sized v.machine → (st : Stepped) → step p v.machine ≡ st → stepped v (effects_at p v.machine) st ≡ end u → Sized u.machine
+  after_step : (v u : State) → Sized v.machine → (st : Stepped) → step p v.machine ≡ st → stepped v (effects_at p v.machine) st ≡ end u → Sized u.machine
   unfolding stepped advance
-  after-step v u s (succeeds m) e q = ends_with _ _ u q (λ l. touched _ _ _ _ _ _ s (steps_touch.success p v.machine m e))
-  after-step v u s (outputs c m) e q = ends_with _ _ u q (λ l. touched _ _ _ _ _ _ s (steps_touch.dump p v.machine c m e))
-  after-step v u s (trap t m) e q = ends_with _ _ u q (λ l. left _ _ _ _ s (traps_leave p v.machine t m e))
-  after-step v u s ill e q = unreached u q
+  after_step v u s (succeeds m) e q = ends_with _ _ u q (λ l. touched _ _ _ _ _ _ s (steps_touch.success p v.machine m e))
+  after_step v u s (outputs c m) e q = ends_with _ _ u q (λ l. touched _ _ _ _ _ _ s (steps_touch.dump p v.machine c m e))
+  after_step v u s (trap t m) e q = ends_with _ _ u q (λ l. left _ _ _ _ s (traps_leave p v.machine t m e))
+  after_step v u s ill e q = unreached u q
 
   unless_halted : (b : Bool) (v u : State) → Sized v.machine → cond b none (stepped v (effects_at p v.machine) (step p v.machine)) ≡ end u → Sized u.machine
   unless_halted true v u s q = unreached u q
-  unless_halted false v u s q = after-step v u s (step p v.machine) refl q
+  unless_halted false v u s q = after_step v u s (step p v.machine) refl q
 
   one_further : (x : History) (u : State) → ((v : State) → x ≡ end v → Sized v.machine) → further p x ≡ end u → Sized u.machine
   unfolding further
   one_further none u f q = unreached u q
   one_further (end v) u f q = unless_halted v.machine.halted v u (f v refl) q
 
-  history-sized : (s : State) → Sized s.machine → (n : ℕ) (u : State) → history p s n ≡ end u → Sized u.machine
+  history_sized : (s : State) → Sized s.machine → (n : ℕ) (u : State) → history p s n ≡ end u → Sized u.machine
   unfolding history
-  history-sized s h zero u q = let d : s ≡ u = cc in subst (λ (x : State). Sized x.machine) d h
-  history-sized s h (suc n) u q = one_further (history p s n) u (history-sized s h n) q
+  history_sized s h zero u q = let d : s ≡ u = cc in subst (λ (x : State). Sized x.machine) d h
+  history_sized s h (suc n) u q = one_further (history p s n) u (history_sized s h n) q
 
-  pub run-sized : (m : Machine) (q : Request) → Sized m → Sized (run p q.limit q.buffer m).machine
-  run-sized m q s =
+  pub run_sized : (m : Machine) (q : Request) → Sized m → Sized (run p q.limit q.buffer m).machine
+  run_sized m q s =
       let r = runs_are_histories p (with_calls m) q (all_open m) in
-      subst Sized (sym r.machine_is) (history-sized (with_calls m) s (run p q.limit q.buffer m).steps r.last r.history_is)
+      subst Sized (sym r.machine_is) (history_sized (with_calls m) s (run p q.limit q.buffer m).steps r.last r.history_is)
 
 -- the numbers of endings: none is that of HALTED, of LIMIT or of no machine
 abbrev pub Told : Ending → Type 0

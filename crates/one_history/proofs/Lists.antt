@@ -13,12 +13,12 @@ use Rattle.machine.specs.Statements.{OneHistory, RunsFrom, loaded_program}
 use Rattle.machine.proofs.Runs.{runs_are_one_history}
 use Rattle.tables.specs.Tables.{insts_of, labels_of}
 use Rattle.loader.specs.Loading.{starts, reply_of, fresh_at, means, load_of}
-use Rattle.loader.proofs.Left.{insts-left, labels-left}
+use Rattle.loader.proofs.Left.{insts_left_lem, labels_left_lem}
 use Rattle.run.specs.declared.Ran.{Ran}
 use Rattle.run.specs.Runs.{answer, run_bytes}
 use Rattle.run.proofs.Cells.{in_cells}
 use Rattle.one_history.specs.Calls.{Call, Called, request, result, OneHistoryOf, CallsAreOneHistory, RecordCallsAreOneHistory}
-use Rattle.one_history.proofs.Records.{load-labels}
+use Rattle.one_history.proofs.Records.{load_labels}
 
 -- the contract of a run over the program p
 abbrev Runs : Program → Machine → ℕ → List ℕ → Ran → List ℕ → Type 0
@@ -52,9 +52,9 @@ pub calls_are_one_history : CallsAreOneHistory
 unfolding means
 calls_are_one_history image insts labels ip count insts' labels' bytes f cs h =
     accepted image (insts_of insts) (labels_of labels) ip count (insts_of insts') (labels_of labels') bytes (load_of image insts labels) refl f.answers
-    (ap insts_of f.insts-are ∙ insts-left _ insts) (ap labels_of f.labels-are ∙ labels-left _ labels) cs h
+    (ap insts_of f.insts_are ∙ insts_left_lem _ insts) (ap labels_of f.labels_are ∙ labels_left_lem _ labels) cs h
 
 pub record_calls_are_one_history : RecordCallsAreOneHistory
 record_calls_are_one_history image insts labels r bytes e z cs h =
-    let a = load-labels image insts labels r e z in
-    (a.loaded, a.accepted, from_loaded image (insts_of insts) labels r.ip r.count (insts_of r.insts) r.labels bytes a.loaded a.accepted a.machine_is a.count_is a.insts-are a.labels-are cs h)
+    let a = load_labels image insts labels r e z in
+    (a.loaded, a.accepted, from_loaded image (insts_of insts) labels r.ip r.count (insts_of r.insts) r.labels bytes a.loaded a.accepted a.machine_is a.count_is a.insts_are a.labels_are cs h)

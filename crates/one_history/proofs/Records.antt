@@ -6,9 +6,9 @@ use Rattle.machine.specs.declared.Label.{Label}
 use Rattle.machine.specs.Load.{fresh, count_of, insts_after, labels_after, Loaded, accepts}
 use Rattle.tables.specs.Tables.{insts_of}
 use Rattle.loader.specs.Loading.{fresh_at}
-use Rattle.loader.proofs.Left.{insts-left}
+use Rattle.loader.proofs.Left.{insts_left_lem}
 use Rattle.label_loader.specs.Loading.{LoadCall, load_of, loaded_by, load_call}
-use Rattle.label_loader.proofs.Accepted.{load-accepted}
+use Rattle.label_loader.proofs.Accepted.{load_accepted}
 
 -- what a load over label records that answers 0 left, by what it loaded
 pub record Loads (image insts : List ℕ) (labels : List Label) (r : LoadCall) : Type 0 where
@@ -16,13 +16,13 @@ pub record Loads (image insts : List ℕ) (labels : List Label) (r : LoadCall) :
   pub accepted : load_of image insts labels ≡ accepts loaded
   pub machine_is : fresh_at r.ip ≡ fresh loaded
   pub count_is : r.count ≡ count_of loaded
-  pub insts-are : insts_of r.insts ≡ insts_after (accepts loaded) (insts_of insts)
-  pub labels-are : r.labels ≡ labels_after (accepts loaded) labels
+  pub insts_are : insts_of r.insts ≡ insts_after (accepts loaded) (insts_of insts)
+  pub labels_are : r.labels ≡ labels_after (accepts loaded) labels
 
-pub load-labels : (image insts : List ℕ) (labels : List Label) (r : LoadCall) → load_call image insts labels ≡ r → r.number ≡ 0 → Loads image insts labels r
+pub load_labels : (image insts : List ℕ) (labels : List Label) (r : LoadCall) → load_call image insts labels ≡ r → r.number ≡ 0 → Loads image insts labels r
 unfolding loaded_by fresh_at fresh
-load-labels image insts labels r e z =
-    let x = load-accepted image insts labels r e z in
+load_labels image insts labels r e z =
+    let x = load_accepted image insts labels r e z in
     let l = x.0 in
     let q = x.2 in
     let i : r.ip ≡ l.ip = sym (ap (λ (c : LoadCall). c.ip) q) in
@@ -31,6 +31,6 @@ load-labels image insts labels r e z =
       accepted = x.1;
       machine_is = ap fresh_at i;
       count_is = sym (ap (λ (c : LoadCall). c.count) q);
-      insts-are = ap insts_of (sym (ap (λ (c : LoadCall). c.insts) q)) ∙ insts-left (accepts l) insts;
-      labels-are = sym (ap (λ (c : LoadCall). c.labels) q);
+      insts_are = ap insts_of (sym (ap (λ (c : LoadCall). c.insts) q)) ∙ insts_left_lem (accepts l) insts;
+      labels_are = sym (ap (λ (c : LoadCall). c.labels) q);
     }

@@ -60,7 +60,7 @@ NoneIs n (c ∷ cs) = (c.ending ≡ n → ⊥) × NoneIs n cs
 
 -- demand 3 of the runs, and none answers that it was lent no machine
 pub record HostHistory (image : List ℕ) (answer : Load) {M : Type 0} (read : M → Machine) (cs : List (HostRun M)) : Type 0 where
-  pub one-history : AcceptedHistory image answer (map host_request cs) (map (host_result read) cs)
+  pub one_history : AcceptedHistory image answer (map host_request cs) (map (host_result read) cs)
   pub never_50 : NoneIs no_machine cs
 
 -- A load that answers the number 0, whatever the lent bytes held, and runs with the tables, the count and the machine's bytes as it left them

@@ -13,7 +13,7 @@ use Rattle.machine.specs.Change as change
 use Rattle.machine.specs.Lookup.{Program, leads_to, lookup}
 use Rattle.machine.specs.Step.{Stepped, succeeds, ill, exec, op_of, step, well_state}
 use Rattle.machine.specs.Run.{Course, course, turn, before, taken, is_ill, is_dump, after}
-use Rattle.quick.proofs.Turns.{course-turn, before_on}
+use Rattle.quick.proofs.Turns.{course_turn, before_on}
 use Rattle.tables.specs.Tables.{number_at, inst, inst_of}
 use Rattle.step_core.specs.declared.Registers.{Registers}
 use Rattle.step_core.specs.Parts.{of_parts, Inside}
@@ -41,19 +41,19 @@ module _ (p : Program) (xs : List ℕ) (o : Over p xs) (m : Machine) where
       known_step = rw well (rw (inst_is p xs o m k.below) (ap (λ (i : Inst). exec (lookup p (inst_of xs m.ip)) i m (op_of i.typ)) keyed))
 
 -- a step that succeeds is one turn
-success-turn : (p : Program) (left room : ℕ) (m m' : Machine) → 0 < left → m.halted ≡ false → step p m ≡ succeeds m' →
+success_turn : (p : Program) (left room : ℕ) (m m' : Machine) → 0 < left → m.halted ≡ false → step p m ≡ succeeds m' →
     course p left room m ≡ after [] (course p (left - 1) room m')
 unfolding taken turn is_ill is_dump
-success-turn p left room m m' l h e =
-    course-turn p left room m l
+success_turn p left room m m' l h e =
+    course_turn p left room m l
     ∙ ap (λ (s : Stepped). turn m (course p (left - 1)) room s (before m left room s)) e
     ∙ ap (turn m (course p (left - 1)) room (succeeds m')) (before_on m left room (succeeds m') h l refl refl)
 
 plus_none : (r : Course) → plus 0 r ≡ r
 plus_none r = let e : 0 + r.steps ≡ r.steps = omega arith in ap (λ (n : ℕ). record { machine = r.machine; ending = r.ending; steps = n; cells = r.cells }) e
 
-plus-more : (k k' : ℕ) (r : Course) → k' ≡ k + 1 → plus k (after [] r) ≡ plus k' r
-plus-more k k' r h =
+plus_more : (k k' : ℕ) (r : Course) → k' ≡ k + 1 → plus k (after [] r) ≡ plus k' r
+plus_more k k' r h =
     let e : k + suc r.steps ≡ k' + r.steps = omega arith in
     ap (λ (n : ℕ). record { machine = r.machine; ending = r.ending; steps = n; cells = r.cells }) e
 
@@ -95,12 +95,12 @@ module _ (xs keys targets : List ℕ) where
           let d = simp (ne_eqb _ _ is_known) at (q (lookup p (inst_of xs c.ip)) (number_at xs (c.ip * 4 + 2)) (number_at xs (c.ip * 4 + 3)) a.target_is).holds.0 in
           known_step p xs o (of_parts c f s ca me false) (get_or keys c.ip 0) (get_or targets c.ip 0) a inv.small.0 inv.small.1 ∙ sym d
 
-      pub success-on : Leads xs keys targets m₀ steps (record { regs = n; left = left - 1; flags = g }) s' ca' me'
-      success-on =
+      pub success_on : Leads xs keys targets m₀ steps (record { regs = n; left = left - 1; flags = g }) s' ca' me'
+      success_on =
           record {
             leads = λ p o k room.
-                sym (plus-more (steps - left) (steps - (left - 1)) (course p (left - 1) room (of_parts n g s' ca' me' false)) (omega (arith, inv.fewer)))
-                ∙ ap (plus (steps - left)) (sym (success-turn p left room (of_parts c f s ca me false) (of_parts n g s' ca' me' false) l refl (stepped p o k)))
+                sym (plus_more (steps - left) (steps - (left - 1)) (course p (left - 1) room (of_parts n g s' ca' me' false)) (omega (arith, inv.fewer)))
+                ∙ ap (plus (steps - left)) (sym (success_turn p left room (of_parts c f s ca me false) (of_parts n g s' ca' me' false) l refl (stepped p o k)))
                 ∙ inv.leads p o k room;
             small = any.holds.1;
             fewer = omega (arith, inv.fewer);

@@ -11,11 +11,11 @@ use Rattle.machine.specs.Lookup.{Program}
 use Rattle.machine.specs.Step.{Stepped, step}
 use Rattle.machine.specs.Run.{ends, goes_on, is_ill, is_dump, before, turn, course}
 
-pub course-turn : (p : Program) (left room : ℕ) (m : Machine) → 0 < left →
+pub course_turn : (p : Program) (left room : ℕ) (m : Machine) → 0 < left →
     course p left room m ≡ turn m (course p (left - 1)) room (step p m) (before m left room (step p m))
 unfolding course
-course-turn p zero room m l = absurd (omega arith)
-course-turn p (suc left) room m l = let f : suc left - 1 ≡ left = omega arith in rw f refl
+course_turn p zero room m l = absurd (omega arith)
+course_turn p (suc left) room m l = let f : suc left - 1 ≡ left = omega arith in rw f refl
 
 -- what stands before a step
 module _ (m : Machine) (limit room : ℕ) (s : Stepped) where

@@ -5,7 +5,7 @@ use Rattle.replay.specs.declared.Parsed.{Parsed}
 use Rattle.replay.specs.declared.Parsed.TheVariants.{Found, Malformed}
 
 pub record Lies (size : ℕ) (r : Record) : Type 0 where
-  pub image-whole : r.image ≤ r.end
+  pub image_whole : r.image ≤ r.end
   pub digests_after : r.end ≤ r.digests
   pub digests_whole : r.digests ≤ r.next
   pub inside : r.next ≤ size

@@ -8,8 +8,8 @@ use lib.Dec.{ltb, lit<, lit≤}
 use lib.ListN.{length, get_or, take, drop, length-append, drop_of_length-le}
 use lib.Seq.{sets}
 use borrow.Author.Tests.{lt-ltb, le-ltb}
-use Rattle.inst.proofs.Parts.{lent-whole}
-use Rattle.inst.proofs.Laws.{by_test, sets_more, drop-next}
+use Rattle.inst.proofs.Parts.{lent_whole}
+use Rattle.inst.proofs.Laws.{by_test, sets_more, drop_next}
 use Rattle.machine.specs.declared.Ending.{Ending}
 use Rattle.machine.specs.declared.Ending.TheVariants.{Halted, Limit, Number}
 use Rattle.io.specs.Digits.{last_digits, hex_digit_ascii, IsDigitCount}
@@ -51,7 +51,7 @@ hex_is out k n h d e =
 
 -- a copy into a text
 pub copied : (t w ys : List ℕ) (at e : ℕ) → at + length w ≡ e → e ≤ length t → ys ≡ w → take at t ++ (ys ++ drop (e - at) (drop at t)) ≡ sets t at w
-copied t w ys at e k h q = rw q (lent-whole t w at e (omega arith) h (omega arith))
+copied t w ys at e k h q = rw q (lent_whole t w at e (omega arith) h (omega arith))
 
 -- one behind the other
 pub put_both : {t t₁ t₂ v w : List ℕ} {at i j : ℕ} → Put t at v t₁ i → Put t₁ i w t₂ j → Put t at (v ++ w) t₂ j
@@ -62,7 +62,7 @@ put_both {t} {v = v} {w = w} {at = at} p q =
 pub lines_next : (cells : List ℕ) (i : ℕ) → i < length cells
     → cell_lines (drop i cells) ≡ cell_line (get_or cells i 0) ++ cell_lines (drop (i + 1) cells)
 unfolding cell_lines
-lines_next cells i h = rw (drop-next cells i h)
+lines_next cells i h = rw (drop_next cells i h)
 
 pub lines_end : (cells : List ℕ) (i : ℕ) → length cells ≤ i → cell_lines (drop i cells) ≡ []
 unfolding cell_lines

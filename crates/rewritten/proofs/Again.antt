@@ -18,7 +18,7 @@ use Rattle.machine.proofs.Loads.{one_case}
 use Rattle.rewritten.specs.Rewritten.{Begins, first, next, SameName}
 use Rattle.rewritten.proofs.Instructions.{Alike, reads_again}
 use Rattle.rewritten.proofs.Places.{ReadAt, ReadSoFar}
-use Rattle.rewritten.proofs.Scans.{ReadsOne, Scans, done, more, along, begin-listed, step-listed}
+use Rattle.rewritten.proofs.Scans.{ReadsOne, Scans, done, more, along, begin_listed, step_listed}
 
 -- ---- names
 
@@ -49,16 +49,16 @@ unfolding SameNames
 names_snoc image w [] l h e = (e, tt)
 names_snoc image w (x ∷ ls) l h e = (h.0, names_snoc image w ls l h.1 e)
 
-names-linked : (image w : List ℕ) (i : Inst) (n : ℕ) (labels : List Label) → SameNames image w (drop 1 labels) → SameName image w i → SameNames image w (drop 1 (linked i n labels))
+names_linked : (image w : List ℕ) (i : Inst) (n : ℕ) (labels : List Label) → SameNames image w (drop 1 labels) → SameName image w i → SameNames image w (drop 1 (linked i n labels))
 unfolding linked
-names-linked image w i n [] h e = h
-names-linked image w i n (x ∷ ls) h e = names_snoc image w ls (record { start = i.start; len = i.len; target = n; next = x.next }) h e
+names_linked image w i n [] h e = h
+names_linked image w i n (x ∷ ls) h e = names_snoc image w ls (record { start = i.start; len = i.len; target = n; next = x.next }) h e
 
 -- so a name's last definition is the same
-last-same : (image w wanted : List ℕ) (e : Entry) (ls : List Label) → SameNames image w ls → last_of w wanted e ls ≡ last_of image wanted e ls
+last_same : (image w wanted : List ℕ) (e : Entry) (ls : List Label) → SameNames image w ls → last_of w wanted e ls ≡ last_of image wanted e ls
 unfolding SameNames last_of
-last-same image w wanted e [] h = refl
-last-same image w wanted e (l ∷ ls) h = rw h.0 (last-same image w wanted (cond (same wanted (name_of image l)) (entry l.target) e) ls h.1)
+last_same image w wanted e [] h = refl
+last_same image w wanted e (l ∷ ls) h = rw h.0 (last_same image w wanted (cond (same wanted (name_of image l)) (entry l.target) e) ls h.1)
 
 module _ (image w : List ℕ) (bytes : Bytes image)
     (alike : (k at : ℕ) (i : Inst) (size : ℕ) → Begins image k at → from_bytes image at ≡ reads i size → Alike image w at size) where
@@ -80,28 +80,28 @@ module _ (image w : List ℕ) (bytes : Bytes image)
   NamesScanned (stops n) = Unit {0}
   NamesScanned (goes t) = SameNames image w (drop 1 t.labels)
 
-  names-one : (s t : Scan) (i : Inst) (size : ℕ) → SameNames image w (drop 1 s.labels) → SameName image w i → scan_one s (reads i size) ≡ goes t
+  names_one : (s t : Scan) (i : Inst) (size : ℕ) → SameNames image w (drop 1 s.labels) → SameName image w i → scan_one s (reads i size) ≡ goes t
       → SameNames image w (drop 1 t.labels)
   unfolding NamesScanned
-  names-one s t i size h e q =
+  names_one s t i size h e q =
       subst NamesScanned q
-      (one_case NamesScanned s i size tt tt (λ _ _. names-linked image w i (length s.insts) s.labels h e) (λ _. h))
+      (one_case NamesScanned s i size tt tt (λ _ _. names_linked image w i (length s.insts) s.labels h e) (λ _. h))
 
-  followed-next : (s t : Scan) → ReadsOne image s t → Followed s → Followed t
-  followed-next s t q h =
+  followed_next : (s t : Scan) → ReadsOne image s t → Followed s → Followed t
+  followed_next s t q h =
       let i = q.inst in
       let r : ReadAt image (length s.insts) i = record { at = s.at; size = q.size; begins = h.0.ends; is = q.is } in
-      (step-listed image s t q h.0, names-one s t i q.size h.1 (names_alike _ i r) q.goes_on)
+      (step_listed image s t q h.0, names_one s t i q.size h.1 (names_alike _ i r) q.goes_on)
 
-  begin-followed : Followed begin
+  begin_followed : Followed begin
   unfolding SameNames
-  begin-followed = (begin-listed image, tt)
+  begin_followed = (begin_listed image, tt)
 
   followed : (u : Scan) → Scans image begin u → Followed u
-  followed u r = along image Followed followed-next begin u r begin-followed
+  followed u r = along image Followed followed_next begin u r begin_followed
 
   pub last_too : (u : Scan) (wanted : List ℕ) → Scans image begin u → last_of w wanted no_entry (drop 1 u.labels) ≡ last_of image wanted no_entry (drop 1 u.labels)
-  last_too u wanted r = last-same image w wanted no_entry _ (followed u r).1
+  last_too u wanted r = last_same image w wanted no_entry _ (followed u r).1
 
   step_too : (s t : Scan) → Followed s → ReadsOne image s t → ReadsOne w s t
   step_too s t h q =
@@ -117,7 +117,7 @@ module _ (image w : List ℕ) (bytes : Bytes image)
 
   scans_from : (s u : Scan) → Followed s → Scans image s u → Scans w s u
   scans_from s u h (done _) = done s
-  scans_from s u h (more _ t _ q r) = more s t u (step_too s t h q) (scans_from t u (followed-next s t q h) r)
+  scans_from s u h (more _ t _ q r) = more s t u (step_too s t h q) (scans_from t u (followed_next s t q h) r)
 
   pub scans_too : (u : Scan) → Scans image begin u → Scans w begin u
-  scans_too u r = scans_from begin u begin-followed r
+  scans_too u r = scans_from begin u begin_followed r

@@ -23,13 +23,13 @@ module _ (image : List ℕ) (insts : List Inst) (l : Loaded) (written : List ℕ
   unfolding insts_after
   records_are = ap (take (count_of l)) (filled l.insts insts fits) ∙ take_at l.insts (drop (count_of l) insts) (count_of l) refl
 
-  table-holds : count_of l ≤ length table
+  table_holds : count_of l ≤ length table
   unfolding insts_after
-  table-holds = rw length-sets fits
+  table_holds = rw length-sets fits
 
   size_is : size_of image table (count_of l) ≡ encoded (length written)
   unfolding size_of
-  size_is = rw (records_are, le-leb _ _ table-holds, well, is)
+  size_is = rw (records_are, le-leb _ _ table_holds, well, is)
 
   output_by : (out : List ℕ) (b : Bool) → leb (length written) (length out) ≡ b
       → output_after (cond b (encoded (length written)) (unencoded 10)) image table (count_of l) out ≡ cond b (written ++ drop (length written) out) out

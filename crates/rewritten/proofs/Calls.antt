@@ -19,7 +19,7 @@ use Rattle.loader.specs.declared.Loading.{Loading}
 use Rattle.loader.specs.declared.Loading.TheVariants as loading
 use Rattle.loader.specs.Loading.{Reply, refuses, starts, reply_of, fresh_at, load_of, insts_left, labels_left, FromBinary}
 use Rattle.loader.specs.Loading as loader
-use Rattle.loader.proofs.Left.{insts-left}
+use Rattle.loader.proofs.Left.{insts_left_lem}
 use Rattle.encoder.specs.declared.Written.{Written}
 use Rattle.encoder.specs.declared.Written.TheVariants as answer
 use Rattle.encoder.specs.Encoder as encoder
@@ -34,19 +34,19 @@ abbrev number_in : Encoded → ℕ
 number_in (unencoded n) = n
 number_in (encoded n) = n
 
-means-size : (r : Written) (n : ℕ) → encoder.means r ≡ encoded n → r ≡ answer.Bytes n
+means_size : (r : Written) (n : ℕ) → encoder.means r ≡ encoded n → r ≡ answer.Bytes n
 unfolding encoder.means
-means-size (answer.Refused m) n e = other m n e
-means-size (answer.Bytes m) n e = ap answer.Bytes (ap number_in e)
+means_size (answer.Refused m) n e = other m n e
+means_size (answer.Bytes m) n e = ap answer.Bytes (ap number_in e)
 
-means-number : (r : Written) (n : ℕ) → encoder.means r ≡ unencoded n → r ≡ answer.Refused n
+means_number : (r : Written) (n : ℕ) → encoder.means r ≡ unencoded n → r ≡ answer.Refused n
 unfolding encoder.means
-means-number (answer.Refused m) n e = ap answer.Refused (ap number_in e)
-means-number (answer.Bytes m) n e = other n m (sym e)
+means_number (answer.Refused m) n e = ap answer.Refused (ap number_in e)
+means_number (answer.Bytes m) n e = other n m (sym e)
 
 means_either : (r : Written) (n : ℕ) (b : Bool) → encoder.means r ≡ cond b (encoded n) (unencoded 10) → r ≡ cond b (answer.Bytes n) (answer.Refused 10)
-means_either r n true e = means-size r n e
-means_either r n false e = means-number r 10 e
+means_either r n true e = means_size r n e
+means_either r n false e = means_number r 10 e
 
 -- what is written is the output's front
 pub front : (written out : List ℕ) → length written ≤ length out → take (length written) (written_into written out) ≡ written
@@ -57,7 +57,7 @@ encodes : (image insts' : List ℕ) (is : List Inst) (l : Loaded) (count : ℕ) 
     → Writes image is l written → Encodes image insts' count written
 encodes image insts' is l count written e n w =
     record {
-      asks = λ r h. means-size r (length written) (h ∙ rw (e, n) w.size_is);
+      asks = λ r h. means_size r (length written) (h ∙ rw (e, n) w.size_is);
       writes = λ out r out' h. (let output_is : out' ≡ written_into written out = h.output_is ∙ rw (e, n) (w.output_is out) in
           record {
             answer_is = means_either r (length written) (leb (length written) (length out)) (h.answers ∙ rw (e, n) (w.answer_is out));
@@ -80,15 +80,15 @@ unstarted : {A : Type 0} (n : ℕ) (m : Machine) (k : ℕ) → refuses n ≡ sta
 unstarted n m k e = let z : ◌≡◌ {A = ℕ} 0 1 = cc in absurd (omega arith)
 
 -- a fresh machine's pointer
-fresh-ip : (ip : ℕ) (l : Loaded) → fresh_at ip ≡ fresh l → ip ≡ l.ip
+fresh_ip : (ip : ℕ) (l : Loaded) → fresh_at ip ≡ fresh l → ip ≡ l.ip
 unfolding fresh_at fresh
-fresh-ip ip l e = ap (λ (m : Machine). m.ip) e
+fresh_ip ip l e = ap (λ (m : Machine). m.ip) e
 
 starts_as : (r : Loading) (l : Loaded) → loader.means r ≡ reply_of (accepts l) → r ≡ loading.Accepted l.ip (count_of l)
 unfolding loader.means reply_of
 starts_as (loading.Refused n) l e = unstarted n (fresh l) (count_of l) e
 starts_as (loading.Accepted ip count) l e =
-    let i = fresh-ip ip l (ap machine_in e) in
+    let i = fresh_ip ip l (ap machine_in e) in
     let n : count ≡ count_of l = ap count_in e in
     rw (i, n)
 
@@ -109,15 +109,15 @@ module _ (image insts : List ℕ) (l : Loaded) (w : Rewritten image (insts_of in
       → FromBinary w.written insts₂ labels₂ r insts₂' labels₂' → LoadsAgain l l.ip (count_of l) w.written insts₂ labels₂ r insts₂' labels₂'
   loads_again insts₂ labels₂ r insts₂' labels₂' h k f =
       let e : load_of w.written insts₂ labels₂ ≡ loaded_again l w.written = w.loads_again (insts_of insts₂) (labels_of labels₂) h k in
-      let insts-are : insts₂' ≡ insts_left (loaded_again l w.written) insts₂ = f.insts-are ∙ ap (λ (x : Load). insts_left x insts₂) e in
+      let insts_are : insts₂' ≡ insts_left (loaded_again l w.written) insts₂ = f.insts_are ∙ ap (λ (x : Load). insts_left x insts₂) e in
       let same : length w.written ≤ image_limit → loaded_again l w.written ≡ accepts l =
       λ s. ap (λ (b : Bool). cond b (accepts l) (rejects 1)) (le-leb (length w.written) image_limit s) in
       record {
         answer_is = loads_either r l 1 (leb (length w.written) image_limit) (f.answers ∙ ap reply_of e);
-        insts-are = insts-are;
-        labels-are = f.labels-are ∙ ap (λ (x : Load). labels_left x labels₂) e;
+        insts_are = insts_are;
+        labels_are = f.labels_are ∙ ap (λ (x : Load). labels_left x labels₂) e;
         encodes_again = λ s. encodes w.written insts₂' (insts_of insts₂) l (count_of l) w.written
-            (ap insts_of (insts-are ∙ ap (λ (x : Load). insts_left x insts₂) (same s)) ∙ insts-left (accepts l) insts₂) refl (w.writes_again s (insts_of insts₂) h);
+            (ap insts_of (insts_are ∙ ap (λ (x : Load). insts_left x insts₂) (same s)) ∙ insts_left_lem (accepts l) insts₂) refl (w.writes_again s (insts_of insts₂) h);
       }
 
 accepted : (image insts labels : List ℕ) (ip count : ℕ) (insts' : List ℕ) → Bytes image → (x : Load) → load_of image insts labels ≡ x
@@ -126,7 +126,7 @@ unfolding loader.means reply_of
 accepted image insts labels ip count insts' bytes (rejects n) e a i = unstarted n (fresh_at ip) count (sym a)
 accepted image insts labels ip count insts' bytes (accepts l) e a i =
     let w = images_are_rewritten image (insts_of insts) (labels_of labels) l bytes e in
-    let p = fresh-ip ip l (ap machine_in a) in
+    let p = fresh_ip ip l (ap machine_in a) in
     let n : count ≡ count_of l = ap count_in a in
     record {
       loaded = l;
@@ -134,10 +134,10 @@ accepted image insts labels ip count insts' bytes (accepts l) e a i =
       ip_is = p;
       count_is = n;
       rewritten = w;
-      encodes = encodes image insts' (insts_of insts) l count w.written (ap insts_of i ∙ insts-left (accepts l) insts) n w.writes;
+      encodes = encodes image insts' (insts_of insts) l count w.written (ap insts_of i ∙ insts_left_lem (accepts l) insts) n w.writes;
       loads_again = λ insts₂ labels₂ r insts₂' labels₂' h k f. rw (p, n) (loads_again image insts l w insts₂ labels₂ r insts₂' labels₂' h k f);
     }
 
 pub calls_are_rewritten : CallsAreRewritten
 calls_are_rewritten image insts labels ip count insts' labels' bytes f =
-    accepted image insts labels ip count insts' bytes (load_of image insts labels) refl f.answers f.insts-are
+    accepted image insts labels ip count insts' bytes (load_of image insts labels) refl f.answers f.insts_are

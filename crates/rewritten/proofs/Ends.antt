@@ -34,28 +34,28 @@ last_at (i ∷ []) (suc k) e = absurd (omega arith)
 last_at (i ∷ j ∷ is) zero e = absurd (omega arith)
 last_at (i ∷ j ∷ is) (suc k) e = last_at (j ∷ is) k (suc_inj e)
 
-some-last : (is : List Inst) → last_is_halt is ≡ true → (k : ℕ) × (suc k ≡ length is)
+some_last : (is : List Inst) → last_is_halt is ≡ true → (k : ℕ) × (suc k ≡ length is)
 unfolding last_is_halt
-some-last [] e = never e
-some-last (i ∷ is) e = (length is, refl)
+some_last [] e = never e
+some_last (i ∷ is) e = (length is, refl)
 
 -- a byte 69 with which an instruction begins is HALT
 halt_form : form_of 69 ≡ none
 unfolding form_of has_none has_eight has_one has_name
 halt_form = refl
 
-pub reads-halt : (image : List ℕ) (at : ℕ) → at < length image → get_or image at 0 ≡ 69 → from_bytes image at ≡ reads halt 1
+pub reads_halt : (image : List ℕ) (at : ℕ) → at < length image → get_or image at 0 ≡ 69 → from_bytes image at ≡ reads halt 1
 unfolding read_operand
-reads-halt image at h e = reads_by image at 69 none h e halt_form
+reads_halt image at h e = reads_by image at 69 none h e halt_form
 
 type_69 : (op : ℕ) → type_of op ≡ 69 → op ≡ 69
 unfolding type_of
 type_69 op = by_test (λ t. t ≡ 69 → op ≡ 69) (eqb op 27) 46 op (λ _ e. absurd (omega arith)) (λ _ e. e)
 
 -- what is read as HALT is that byte
-halt-read : (image : List ℕ) (at : ℕ) (i : Inst) (size : ℕ) → Bytes image → from_bytes image at ≡ reads i size → is_halt i ≡ true → get_or image at 0 ≡ 69
+halt_read : (image : List ℕ) (at : ℕ) (i : Inst) (size : ℕ) → Bytes image → from_bytes image at ≡ reads i size → is_halt i ≡ true → get_or image at 0 ≡ 69
 unfolding as_bytes written_byte
-halt-read image at i size bytes e h =
+halt_read image at i size bytes e h =
     let r = read_in_lem image at i size e in
     let a = (reads_again image at bytes i size e).written.bytes_are 0 r.moves in
     type_69 (get_or image at 0) (sym a ∙ eqb-true i.typ 69 h)
@@ -63,20 +63,20 @@ halt-read image at i size bytes e h =
 module _ (image : List ℕ) (bytes : Bytes image) (s : Scan) (listed : ReadSoFar image s) (to_end : s.at ≡ length image) where
   pub ends_with : last_is_halt s.insts ≡ true → EndsWithHalt image
   ends_with e =
-      let z = some-last s.insts e in
+      let z = some_last s.insts e in
       let k = z.0 in
       let h : k < length s.insts = omega (arith, z.1) in
       let r = listed.each k h in
-      let b = halt-read image r.at _ r.size bytes r.is (sym (last_at s.insts k z.1) ∙ e) in
+      let b = halt_read image r.at _ r.size bytes r.is (sym (last_at s.insts k z.1) ∙ e) in
       let m = read_in_lem image r.at _ r.size r.is in
-      let q = (one_reading image r.at r.at _ halt r.size 1 refl r.is (reads-halt image r.at (omega (arith, m.moves, m.inside)) b)).1 in
+      let q = (one_reading image r.at r.at _ halt r.size 1 refl r.is (reads_halt image r.at (omega (arith, m.moves, m.inside)) b)).1 in
       let p = one_place image (suc k) (r.at + r.size) s.at (next k r.at r.size _ r.begins r.is) (rw z.1 listed.ends) in
       record { index = k; at = r.at; begins = r.begins; is_halt_lem = b; is_last = omega arith }
 
   pub last_halts : EndsWithHalt image → last_is_halt s.insts ≡ true
   last_halts e =
       let k = e.index in
-      let q = reads-halt image e.at (omega (arith, e.is_last)) e.is_halt_lem in
+      let q = reads_halt image e.at (omega (arith, e.is_last)) e.is_halt_lem in
       let r = inst_is image bytes s listed to_end k e.at halt 1 e.begins q in
       let n = next k e.at 1 halt e.begins q in
       let z = number_at_end image bytes s listed to_end (suc k) (e.at + 1) n (omega (arith, e.is_last)) in
@@ -113,5 +113,5 @@ adds_halt : (s : Scan) → length s.insts < inst_limit → scan_one s (reads hal
 unfolding scan_one
 adds_halt s h = rw (lt-leb inst_limit (length s.insts) h)
 
-pub takes-halt : (w : List ℕ) (s : Scan) → s.at < length w → get_or w s.at 0 ≡ 69 → length s.insts < inst_limit → Scans w s (closing s)
-takes-halt w s h e l = more s (closing s) (closing s) (record { inst = halt; size = 1; inside = h; is = reads-halt w s.at h e; goes_on = adds_halt s l }) (done (closing s))
+pub takes_halt : (w : List ℕ) (s : Scan) → s.at < length w → get_or w s.at 0 ≡ 69 → length s.insts < inst_limit → Scans w s (closing s)
+takes_halt w s h e l = more s (closing s) (closing s) (record { inst = halt; size = 1; inside = h; is = reads_halt w s.at h e; goes_on = adds_halt s l }) (done (closing s))

@@ -11,7 +11,7 @@ use Rattle.machine.specs.Load.{Loaded, Load, accepts, insts_after, count_of}
 use Rattle.machine.specs.Encode.{unencoded, encoded}
 use Rattle.tables.specs.Tables.{insts_of, labels_of}
 use Rattle.loader.specs.Loading.{load_of, insts_left}
-use Rattle.loader.proofs.Left.{insts-left}
+use Rattle.loader.proofs.Left.{insts_left_lem}
 use Rattle.machine_bytes.specs.Layout.{machine_size}
 use Rattle.mm_host.specs.Calls as host
 use Rattle.mm_host.proofs.Accepted as host-accepted
@@ -53,8 +53,8 @@ host_written : (image insts insts' : List ℕ) (l : Loaded) (count : ℕ) → Re
 host_written image insts insts' l count w i n =
     record {
       rewritten = w;
-      encodes = host_encodes image insts' (insts_of insts) l count w.written (ap insts_of i ∙ insts-left (accepts l) insts) n w.writes;
-      encodes_again = λ insts₂ h s. host_encodes w.written (insts_left (accepts l) insts₂) (insts_of insts₂) l count w.written (insts-left (accepts l) insts₂) n (w.writes_again s (insts_of insts₂) h);
+      encodes = host_encodes image insts' (insts_of insts) l count w.written (ap insts_of i ∙ insts_left_lem (accepts l) insts) n w.writes;
+      encodes_again = λ insts₂ h s. host_encodes w.written (insts_left (accepts l) insts₂) (insts_of insts₂) l count w.written (insts_left_lem (accepts l) insts₂) n (w.writes_again s (insts_of insts₂) h);
     }
 
 -- ---- a load that answers 0, and one more
@@ -67,7 +67,7 @@ load_is image insts labels machine x m e = rw (eq-eqb (length machine) machine_s
 pub host_calls_are_rewritten : HostCallsAreRewritten
 unfolding host.loaded_by host_written
 host_calls_are_rewritten image insts labels machine r bytes e z =
-    let x = host-accepted.load-accepted image insts labels machine r e z in
+    let x = host-accepted.load_accepted image insts labels machine r e z in
     let l = x.0 in
     let q = x.2 in
     let w = images_are_rewritten image (insts_of insts) (labels_of labels) l bytes x.1 in
@@ -82,7 +82,7 @@ host_calls_are_rewritten image insts labels machine r bytes e z =
 pub record_calls_are_rewritten : RecordCallsAreRewritten
 unfolding records.loaded_by records.load_call host_written
 record_calls_are_rewritten image insts labels r bytes e z =
-    let x = record-accepted.load-accepted image insts labels r e z in
+    let x = record-accepted.load_accepted image insts labels r e z in
     let l = x.0 in
     let q = x.2 in
     let w = images_are_rewritten image (insts_of insts) labels l bytes x.1 in

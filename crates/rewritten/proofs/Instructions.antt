@@ -129,22 +129,22 @@ module _ (image : List ℕ) (at : ℕ) (bytes : Bytes image) where
   abbrev o : ℕ
   o = get_or image at 0
 
-  first-kept : eqb o 27 ≡ false → o ≡ written_byte image at 0
+  first_kept : eqb o 27 ≡ false → o ≡ written_byte image at 0
   unfolding written_byte type_of
-  first-kept e = rw e
+  first_kept e = rw e
 
   none_written : eqb o 27 ≡ false → BytesAre image at (o ∷ []) 1
   none_written e = record { size_is = refl; bytes_are = by }
     where
       by : (j : ℕ) → j < 1 → get_or (o ∷ []) j 0 ≡ written_byte image at j
-      by zero h = first-kept e
+      by zero h = first_kept e
       by (suc j) h = absurd (omega arith)
 
-  eight-written : eqb o 27 ≡ false → is_name (form_of o) ≡ false → at + 9 ≤ length image → BytesAre image at (o ∷ bytes_of 8 (word image (at + 1))) 9
-  eight-written e n h = record { size_is = rw (eight_bytes h); bytes_are = by }
+  eight_written : eqb o 27 ≡ false → is_name (form_of o) ≡ false → at + 9 ≤ length image → BytesAre image at (o ∷ bytes_of 8 (word image (at + 1))) 9
+  eight_written e n h = record { size_is = rw (eight_bytes h); bytes_are = by }
     where
       by : (j : ℕ) → j < 9 → get_or (o ∷ bytes_of 8 (word image (at + 1))) j 0 ≡ written_byte image at j
-      by zero l = first-kept e
+      by zero l = first_kept e
       by (suc j) l = rw (eight_bytes h) (entry 0 g 8 j (omega arith) ∙ sym (plain_byte image at j n))
 
   one_written : is_name (form_of o) ≡ false → BytesAre image at (type_of o ∷ bytes_of 1 (get_or image (at + 1) 0)) 2
@@ -167,9 +167,9 @@ module _ (image : List ℕ) (at : ℕ) (bytes : Bytes image) where
       (λ l. sym (low_byte image at j (omega (arith, ltb-true j 6 l))))
       (λ l. sym (zero_byte image at j n (omega (arith, ltb-false j 6 l)) (omega arith)))
 
-  name-written : eqb o 27 ≡ false → is_name (form_of o) ≡ true → (len : ℕ) → at + 9 + len ≤ length image
+  name_written : eqb o 27 ≡ false → is_name (form_of o) ≡ true → (len : ℕ) → at + 9 + len ≤ length image
       → BytesAre image at (o ∷ (field ++ part image (at + 9) len)) (9 + len)
-  name-written e n len l = record { size_is = size; bytes_are = λ j k. by j k _ refl }
+  name_written e n len l = record { size_is = size; bytes_are = λ j k. by j k _ refl }
     where
       bs : List ℕ
       bs = o ∷ (field ++ part image (at + 9) len)
@@ -181,7 +181,7 @@ module _ (image : List ℕ) (at : ℕ) (bytes : Bytes image) where
       far k h = get_or-append-add (o ∷ field) (part image (at + 9) len) k 0 ∙ slice_at image (at + 9) len k h ∙ rw add_assoc (sym (name_byte image at k))
 
       by : (j : ℕ) → j < 9 + len → (b : Bool) → ltb j 9 ≡ b → get_or bs j 0 ≡ written_byte image at j
-      by zero k b z = first-kept e
+      by zero k b z = first_kept e
       by (suc j) k true z =
           let m : j < 8 = omega (arith, ltb-true (suc j) 9 z) in
           get_or-append field (part image (at + 9) len) 0 j m ∙ field_written n j m
@@ -202,14 +202,14 @@ module _ (image w : List ℕ) (at size : ℕ) (a : Alike image w at size) (some 
   first_alike : get_or w at 0 ≡ type_of (get_or image at 0)
   first_alike = rw add-zero at (a.bytes_are 0 some) ∙ first_byte image at
 
-  first-same : eqb (get_or image at 0) 27 ≡ false → get_or w at 0 ≡ get_or image at 0
+  first_same : eqb (get_or image at 0) 27 ≡ false → get_or w at 0 ≡ get_or image at 0
   unfolding type_of
-  first-same e = first_alike ∙ rw e
+  first_same e = first_alike ∙ rw e
 
 none_again : (image : List ℕ) (at : ℕ) (w : List ℕ) → Alike image w at 1 → (o : ℕ) → get_or image at 0 ≡ o → form_of o ≡ none → eqb o 27 ≡ false
     → from_bytes w at ≡ reads (plain o 0) 1
 unfolding read_operand
-none_again image at w a o q e n = reads_by w at o none (omega (arith, a.inside)) (first-same image w at 1 a (lit< tt) (rw q n) ∙ q) e
+none_again image at w a o q e n = reads_by w at o none (omega (arith, a.inside)) (first_same image w at 1 a (lit< tt) (rw q n) ∙ q) e
 
 eight_again : (image : List ℕ) (at : ℕ) (w : List ℕ) → at + 9 ≤ length image → Alike image w at 9 → (o : ℕ) → get_or image at 0 ≡ o → form_of o ≡ eight → eqb o 27 ≡ false
     → from_bytes w at ≡ reads (plain o (word image (at + 1))) 9
@@ -219,7 +219,7 @@ eight_again image at w h a o q e n =
     let same : word w (at + 1) ≡ word image (at + 1) =
     ap little_endian (slice_alike w image (at + 1) 8 (omega (arith, a.inside)) (omega arith)
     (λ k l. let z : at + 1 + k ≡ at + suc k = omega arith in rw z (a.bytes_are (suc k) (omega arith) ∙ plain_byte image at k m))) in
-    reads_by w at o eight (omega (arith, a.inside)) (first-same image w at 9 a (lit< tt) (rw q n) ∙ q) e
+    reads_by w at o eight (omega (arith, a.inside)) (first_same image w at 9 a (lit< tt) (rw q n) ∙ q) e
     ∙ rw (le-ltb (length w) (at + 9) a.inside, same)
 
 type_again : (o : ℕ) → type_of (type_of o) ≡ type_of o
@@ -260,8 +260,8 @@ module _ (image : List ℕ) (at : ℕ) (bytes : Bytes image) (w : List ℕ) (h :
         ∙ rw (low_alike 0 (lit< tt), low_alike 1 (lit< tt), low_alike 2 (lit< tt), low_alike 3 (lit< tt), low_alike 4 (lit< tt), low_alike 5 (lit< tt), high_alike 6 (lit≤ tt) (lit< tt), high_alike 7 (lit≤ tt) (lit< tt))
         (sym (len_is image at bytes h))
 
-    name-same : at + 9 + len ≤ length image → part w (at + 9) len ≡ part image (at + 9) len
-    name-same l =
+    name_same : at + 9 + len ≤ length image → part w (at + 9) len ≡ part image (at + 9) len
+    name_same l =
         slice_alike w image (at + 9) len (omega (arith, a.inside)) l
         (λ k m. let z : at + 9 + k ≡ at + (9 + k) = omega arith in rw z (a.bytes_are (9 + k) (omega arith) ∙ name_byte image at k))
 
@@ -275,9 +275,9 @@ module _ (image : List ℕ) (at : ℕ) (bytes : Bytes image) (w : List ℕ) (h :
   name_again a o q e n l k =
       let m : is_name (form_of (get_or image at 0)) ≡ true = rw (q, e) in
       let i : at + 9 + len ≤ length w = omega (arith, a.inside) in
-      reads_by w at o name (omega arith) (first-same image w at (9 + len) a (omega arith) (rw q n) ∙ q) e
+      reads_by w at o name (omega arith) (first_same image w at (9 + len) a (omega arith) (rw q n) ∙ q) e
       ∙ rw (le-ltb (length w) (at + 9) (omega arith), field_again a m)
-      (small_len w at o len len_small i (rw (name-same a m l) k))
+      (small_len w at o len len_small i (rw (name_same a m l) k))
 
 -- ---- together
 
@@ -299,9 +299,9 @@ module _ (image : List ℕ) (at : ℕ) (bytes : Bytes image) where
       (λ k. let l = ltb-false (length image) (at + 9 + len) k in
       by_test (Again image at) (name_ok (part image (at + 9) len)) _ _
       (λ ok. record {
-        written = rw (e, len_bytes image at bytes h) (name-written image at bytes n m len l);
+        written = rw (e, len_bytes image at bytes h) (name_written image at bytes n m len l);
         back = λ w a. name_again image at bytes w h a first refl e n l ok;
-        named = λ w a. name-same image at bytes w h a m l;
+        named = λ w a. name_same image at bytes w h a m l;
       })
       (λ _. tt)))
 
@@ -314,7 +314,7 @@ module _ (image : List ℕ) (at : ℕ) (bytes : Bytes image) where
       let n = not_one first eight e (λ z. omega arith) in
       by_test (Again image at) (ltb (length image) (at + 9)) _ _ (λ _. tt)
       (λ k. let l = ltb-false (length image) (at + 9) k in
-      record { written = rw e (eight-written image at bytes n (rw e) l); back = λ w a. eight_again image at w l a first refl e n; named = λ w a. nameless w })
+      record { written = rw e (eight_written image at bytes n (rw e) l); back = λ w a. eight_again image at w l a first refl e n; named = λ w a. nameless w })
   operand_again one e h =
       by_test (Again image at) (ltb (length image) (at + 2)) _ _ (λ _. tt)
       (λ k. record { written = rw (read_as first e).0 (one_written image at bytes (rw e)); back = λ w a. one_again image at w a first refl e; named = λ w a. nameless w })

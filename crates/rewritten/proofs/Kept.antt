@@ -22,7 +22,7 @@ use Rattle.machine.specs.Encode.{bytes_of_all}
 use Rattle.rewritten.specs.Rewritten.{Begins, Changes, dump, high_byte, BytesKept}
 use Rattle.rewritten.proofs.Instructions.{is_name, written_byte, first_byte, zero_byte, Alike, reads_again}
 use Rattle.rewritten.proofs.Places.{one_place, one_adds, ReadAt, ReadSoFar}
-use Rattle.rewritten.proofs.Scans.{Scans, done, more, listed, begin-listed, step-listed}
+use Rattle.rewritten.proofs.Scans.{Scans, done, more, listed, begin_listed, step_listed}
 use Rattle.rewritten.proofs.Written.{number_below}
 
 -- ---- bytes
@@ -94,15 +94,15 @@ name_letter = refl
 
 -- past the end there is no first byte 27, and none with a name
 module _ (image : List ℕ) (at : ℕ) where
-  dump-inside : get_or image at 0 ≡ 27 → at < length image
-  dump-inside e = by (ltb at (length image)) refl
+  dump_inside : get_or image at 0 ≡ 27 → at < length image
+  dump_inside e = by (ltb at (length image)) refl
     where
       by : (b : Bool) → ltb at (length image) ≡ b → at < length image
       by true z = ltb-true _ _ z
       by false z = absurd (omega (arith, e, get_or-eq_default image 0 {n = at} (ltb-false _ _ z)))
 
-  name-inside : form_of (get_or image at 0) ≡ name → at < length image
-  name-inside e = by (ltb at (length image)) refl
+  name_inside : form_of (get_or image at 0) ≡ name → at < length image
+  name_inside e = by (ltb at (length image)) refl
     where
       by : (b : Bool) → ltb at (length image) ≡ b → at < length image
       by true z = ltb-true _ _ z
@@ -123,7 +123,7 @@ record Covered (image : List ℕ) (k : ℕ) : Type 0 where
 
 covered : (image : List ℕ) (k : ℕ) (s u : Scan) → Scans image s u → ReadSoFar image s → s.at ≤ k → k < u.at → Covered image k
 covered image k s u (done _) l h g = absurd (omega arith)
-covered image k s u (more _ t _ q r) l h g = by (λ z. covered image k t u r (step-listed image s t q l) z g) (ltb k t.at) refl
+covered image k s u (more _ t _ q r) l h g = by (λ z. covered image k t u r (step_listed image s t q l) z g) (ltb k t.at) refl
   where
     a : t.at ≡ s.at + q.size
     a = (one_adds s q.inst q.size t q.goes_on).at_is
@@ -163,11 +163,11 @@ module _ (image w : List ℕ) (bytes : Bytes image) (s : Scan) (r : Scans image 
   changed : (k b : ℕ) → Changes image k b → get_or w k 0 ≡ b
   unfolding type_of
   changed k b (dump n at p e) =
-      let x = read_here n at p (dump-inside image at e) in
+      let x = read_here n at p (dump_inside image at e) in
       let m = (read_in_lem image at _ _ x.2).moves in
       rw add-zero at ((alike n at _ _ p x.2).bytes_are 0 m) ∙ first_byte image at ∙ rw e
   changed k b (high_byte n at j p e h) =
-      let x = read_here n at p (name-inside image at e) in
+      let x = read_here n at p (name_inside image at e) in
       let m = nine image at _ _ e x.2 in
       let lo = leb-true 7 j (and_left (leb 7 j) (leb j 8) h) in
       let hi = leb-true j 8 (and_right (leb 7 j) (leb j 8) h) in
@@ -179,7 +179,7 @@ module _ (image w : List ℕ) (bytes : Bytes image) (s : Scan) (r : Scans image 
 
   others : (k : ℕ) → k < length image → ((b : ℕ) → Changes image k b → ⊥) → get_or w k 0 ≡ get_or image k 0
   others k h f =
-      let c = covered image k begin s r (begin-listed image) (omega arith) (omega arith) in
+      let c = covered image k begin s r (begin_listed image) (omega arith) (omega arith) in
       let j = k - c.at in
       let z : c.at + j ≡ k = omega (arith, c.before) in
       let b = (alike c.index c.at c.inst c.size c.begins c.is).bytes_are j (omega (arith, c.before, c.behind)) in

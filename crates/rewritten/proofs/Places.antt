@@ -39,9 +39,9 @@ one_place image _ _ _ (next n at size i p e) (next _ at' size' i' p' e') =
     let r = one_reading image at at' i i' size size' z e e' in
     omega (arith, r.1)
 
-pub begins-inside : (image : List ℕ) (n at : ℕ) → Begins image n at → at ≤ length image
-begins-inside image n at first = omega arith
-begins-inside image n at (next m a size i p e) = (read_in_lem image a i size e).inside
+pub begins_inside : (image : List ℕ) (n at : ℕ) → Begins image n at → at ≤ length image
+begins_inside image n at first = omega arith
+begins_inside image n at (next m a size i p e) = (read_in_lem image a i size e).inside
 
 -- nothing is read at the end
 pub none_at_end : (image : List ℕ) (at : ℕ) (i : Inst) (size : ℕ) → length image ≤ at → from_bytes image at ≡ reads i size → ⊥
@@ -59,7 +59,7 @@ pub record ReadAt (image : List ℕ) (k : ℕ) (i : Inst) : Type 0 where
 -- what one instruction adds
 pub record Adds (s : Scan) (i : Inst) (size : ℕ) (t : Scan) : Type 0 where
   pub at_is : t.at ≡ s.at + size
-  pub insts-are : t.insts ≡ s.insts ++ (i ∷ [])
+  pub insts_are : t.insts ≡ s.insts ++ (i ∷ [])
 
 unfoldable AddsScanned : Scan → Inst → ℕ → Scanned → Type 0
 AddsScanned s i size (stops n) = Unit {0}
@@ -69,7 +69,7 @@ pub one_adds : (s : Scan) (i : Inst) (size : ℕ) (t : Scan) → scan_one s (rea
 unfolding AddsScanned
 one_adds s i size t e =
     subst (AddsScanned s i size) e
-    (one_case (AddsScanned s i size) s i size tt tt (λ _ _. record { at_is = refl; insts-are = refl }) (λ _. record { at_is = refl; insts-are = refl }))
+    (one_case (AddsScanned s i size) s i size tt tt (λ _ _. record { at_is = refl; insts_are = refl }) (λ _. record { at_is = refl; insts_are = refl }))
 
 -- the instructions so far are the image's, each at its place
 pub record ReadSoFar (image : List ℕ) (s : Scan) : Type 0 where
@@ -87,8 +87,8 @@ module _ (image : List ℕ) where
 
   pub listed_next : (s t : Scan) (i : Inst) (size : ℕ) → ReadSoFar image s → from_bytes image s.at ≡ reads i size → Adds s i size t → ReadSoFar image t
   listed_next s t i size l e a =
-      let n : length t.insts ≡ suc (length s.insts) = ap length a.insts-are ∙ length-append s.insts (i ∷ []) ∙ add-one (length s.insts) in
+      let n : length t.insts ≡ suc (length s.insts) = ap length a.insts_are ∙ length-append s.insts (i ∷ []) ∙ add-one (length s.insts) in
       record {
         ends = rw (n, a.at_is) (next _ _ size i l.ends e);
-        each = λ k h. rw a.insts-are (longer s.insts i s.at size l.ends e l.each k (rw n at h) _ refl);
+        each = λ k h. rw a.insts_are (longer s.insts i s.at size l.ends e l.each k (rw n at h) _ refl);
       }

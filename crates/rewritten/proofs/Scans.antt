@@ -58,14 +58,14 @@ module _ (image : List ℕ) where
   along P f s u (done _) p = p
   along P f s u (more _ t _ q r) p = along P f t u r (f s t q p)
 
-  pub begin-listed : ReadSoFar image begin
-  begin-listed = record { ends = first; each = λ k h. absurd (omega arith) }
+  pub begin_listed : ReadSoFar image begin
+  begin_listed = record { ends = first; each = λ k h. absurd (omega arith) }
 
-  pub step-listed : (s t : Scan) → ReadsOne image s t → ReadSoFar image s → ReadSoFar image t
-  step-listed s t q l = listed_next image s t q.inst q.size l q.is (one_adds s q.inst q.size t q.goes_on)
+  pub step_listed : (s t : Scan) → ReadsOne image s t → ReadSoFar image s → ReadSoFar image t
+  step_listed s t q l = listed_next image s t q.inst q.size l q.is (one_adds s q.inst q.size t q.goes_on)
 
   pub listed : (u : Scan) → Scans image begin u → ReadSoFar image u
-  listed u r = along (ReadSoFar image) step-listed begin u r begin-listed
+  listed u r = along (ReadSoFar image) step_listed begin u r begin_listed
 
   pub joined : (s t u : Scan) → Scans image s t → Scans image t u → Scans image s u
   joined s t u (done _) r = r

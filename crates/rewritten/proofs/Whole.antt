@@ -21,16 +21,16 @@ use Rattle.machine.specs.Limits.{image_limit, inst_limit}
 use Rattle.machine.specs.Load.{start_name, halt, Scan, begin, no_entry, entry, last_of, closed, Loaded, rejects, accepts, loads, count_of}
 use Rattle.machine.specs.Encode.{bytes_of_all}
 use Rattle.machine.specs.Statements.{Labels, DefinesLast}
-use Rattle.machine.proofs.Loads.{Parsed, parsed, loads_as, enough, load-accepts}
+use Rattle.machine.proofs.Loads.{Parsed, parsed, loads_as, enough, load_accepts}
 use Rattle.machine.proofs.Fuel.{reads_to_end}
 use Rattle.machine.proofs.Valid.{valid, closed_halts}
-use Rattle.rewritten.specs.Rewritten.{Begins, EndsWithHalt, RoomIs, own-length, one_more, RecordsAre, SameName, loaded_again, Rewritten, ImagesAreRewritten}
+use Rattle.rewritten.specs.Rewritten.{Begins, EndsWithHalt, RoomIs, own_length, one_more, RecordsAre, SameName, loaded_again, Rewritten, ImagesAreRewritten}
 use Rattle.rewritten.proofs.Instructions.{Alike, first_byte, nameless}
-use Rattle.rewritten.proofs.Places.{begins-inside, ReadSoFar}
+use Rattle.rewritten.proofs.Places.{begins_inside, ReadSoFar}
 use Rattle.rewritten.proofs.Scans.{Scans, scans, scan_to_end, listed, joined}
 use Rattle.rewritten.proofs.Written.{number_at_end, inst_is, size_is, alike}
 use Rattle.rewritten.proofs.Again.{bytes_same, begins_too, names_alike, last_too, scans_too}
-use Rattle.rewritten.proofs.Ends.{reads-halt, ends_with, last_halts, Tail, tail_of, appended, halt_bytes, closing, takes-halt}
+use Rattle.rewritten.proofs.Ends.{reads_halt, ends_with, last_halts, Tail, tail_of, appended, halt_bytes, closing, takes_halt}
 use Rattle.rewritten.proofs.Kept.{inst_bytes, all_bytes, bytes_kept}
 use Rattle.rewritten.proofs.Answers.{writes}
 
@@ -43,9 +43,9 @@ unfolding closed
 closed_again is = rw (closed_halts is)
 
 -- behind the image's own instructions stands HALT alone
-one-halt : (m : ℕ) → get_or (halt ∷ []) m halt ≡ halt
-one-halt zero = refl
-one-halt (suc m) = refl
+one_halt : (m : ℕ) → get_or (halt ∷ []) m halt ≡ halt
+one_halt zero = refl
+one_halt (suc m) = refl
 
 tail_halts : (is t : List Inst) (k : ℕ) → Tail is t → length is ≤ k → get_or (is ++ t) k halt ≡ halt
 tail_halts is t k x h =
@@ -54,7 +54,7 @@ tail_halts is t k x h =
   where
     by : Tail is t → get_or t (k - length is) halt ≡ halt
     by (inl x) = rw x.1
-    by (inr x) = rw x.1 (one-halt (k - length is))
+    by (inr x) = rw x.1 (one_halt (k - length is))
 
 -- an accepted image, its scan, and what was appended to its instructions
 module _ (image : List ℕ) (bytes : Bytes image) (l : Loaded) (p : Parsed image l) (t : List Inst) (closed_is : closed p.last.insts ≡ p.last.insts ++ t)
@@ -72,10 +72,10 @@ module _ (image : List ℕ) (bytes : Bytes image) (l : Loaded) (p : Parsed image
   ls = listed image s r
 
   to_end : s.at ≡ length image
-  to_end = omega (arith, reads_to_end image s p.scanned, begins-inside image _ _ ls.ends)
+  to_end = omega (arith, reads_to_end image s p.scanned, begins_inside image _ _ ls.ends)
 
-  insts-are : l.insts ≡ is ++ t
-  insts-are = p.passes.insts-are ∙ closed_is
+  insts_are : l.insts ≡ is ++ t
+  insts_are = p.passes.insts_are ∙ closed_is
 
   abbrev w : List ℕ
   w = bytes_of_all image (is ++ t)
@@ -98,7 +98,7 @@ module _ (image : List ℕ) (bytes : Bytes image) (l : Loaded) (p : Parsed image
   last_byte e = ap (λ (x : List ℕ). get_or x (length image) 0) (w_halt e) ∙ get_or_at (bytes_of_all image is) 69 [] 0 (length image) (size_is image bytes s ls to_end)
 
   count_is : count_of l ≡ length is + length t
-  count_is = ap length insts-are ∙ length-append is t
+  count_is = ap length insts_are ∙ length-append is t
 
   room : RoomIs image (count_of l) (length w)
   room = by tail
@@ -106,7 +106,7 @@ module _ (image : List ℕ) (bytes : Bytes image) (l : Loaded) (p : Parsed image
       by : Tail is t → RoomIs image (count_of l) (length w)
       by (inl x) =
           let n : count_of l ≡ length is = count_is ∙ ap (λ (y : List Inst). length is + length y) x.1 ∙ add-zero (length is) in
-          subst (RoomIs image (count_of l)) (sym (w_nothing x.1)) (own-length (ends_with image bytes s ls to_end x.0) (rw (n, ← to_end) ls.ends))
+          subst (RoomIs image (count_of l)) (sym (w_nothing x.1)) (own_length (ends_with image bytes s ls to_end x.0) (rw (n, ← to_end) ls.ends))
       by (inr x) =
           let n : count_of l ≡ suc (length is) = count_is ∙ ap (λ (y : List Inst). length is + length y) x.1 ∙ add-one (length is) in
           subst (RoomIs image (count_of l)) (sym (w_longer x.1))
@@ -141,7 +141,7 @@ module _ (image : List ℕ) (bytes : Bytes image) (l : Loaded) (p : Parsed image
       by : Tail is t → EndsWithHalt w
       by (inl x) =
           let e = ends_with image bytes s ls to_end x.0 in
-          let a = same e.index e.at halt 1 e.begins (reads-halt image e.at (omega (arith, e.is_last)) e.is_halt_lem) in
+          let a = same e.index e.at halt 1 e.begins (reads_halt image e.at (omega (arith, e.is_last)) e.is_halt_lem) in
           record {
             index = e.index;
             at = e.at;
@@ -167,14 +167,14 @@ module _ (image : List ℕ) (bytes : Bytes image) (l : Loaded) (p : Parsed image
       by : Tail is t → (v : Scan) × Scans w begin v × (v.at ≡ length w) × (v.insts ≡ is ++ t) × (v.labels ≡ s.labels)
       by (inl x) = (s, too, to_end ∙ sym (w_nothing x.1), rw x.1 (sym (append-nil is)), refl)
       by (inr x) =
-          let n : length is < inst_limit = omega (arith, p.passes.fits, ap length p.passes.insts-are, ap length closed_is, length-append is t, ap length x.1) in
+          let n : length is < inst_limit = omega (arith, p.passes.fits, ap length p.passes.insts_are, ap length closed_is, length-append is t, ap length x.1) in
           let h : s.at < length w = omega (arith, to_end, w_longer x.1) in
-          (closing s, joined w begin s (closing s) too (takes-halt w s h (ap (λ (k : ℕ). get_or w k 0) to_end ∙ last_byte x.1) n), omega (arith, to_end, w_longer x.1), rw x.1, refl)
+          (closing s, joined w begin s (closing s) too (takes_halt w s h (ap (λ (k : ℕ). get_or w k 0) to_end ∙ last_byte x.1) n), omega (arith, to_end, w_longer x.1), rw x.1, refl)
 
   begins_all : Begins w (count_of l) (length w)
   begins_all =
       let x = scans_again in
-      let n : length x.0.insts ≡ count_of l = ap length x.3 ∙ sym (ap length insts-are) in
+      let n : length x.0.insts ≡ count_of l = ap length x.3 ∙ sym (ap length insts_are) in
       rw (← n, ← x.2) (listed w x.0 x.1).ends
 
   records : RecordsAre image (is ++ t)
@@ -195,8 +195,8 @@ module _ (image : List ℕ) (bytes : Bytes image) (l : Loaded) (p : Parsed image
       let z = scan_to_end w begin v x.1 (omega (arith, x.2)) (length w) (omega arith) in
       let start : last_of w start_name no_entry (drop 1 v.labels) ≡ entry l.ip =
       ap (λ (d : List Label). last_of w start_name no_entry (drop 1 d)) x.4 ∙ last_too image w bytes same s start_name r ∙ f.start in
-      let is-closed : l.insts ≡ closed v.insts = f.insts-are ∙ sym (closed_again is) ∙ ap closed (closed_is ∙ sym x.3) in
-      loads_as w l v h z (record { insts-are = is-closed; labels-are = f.labels-are ∙ sym x.4; start = start; fits = f.fits; no_native = f.no_native })
+      let is-closed : l.insts ≡ closed v.insts = f.insts_are ∙ sym (closed_again is) ∙ ap closed (closed_is ∙ sym x.3) in
+      loads_as w l v h z (record { insts_are = is-closed; labels_are = f.labels_are ∙ sym x.4; start = start; fits = f.fits; no_native = f.no_native })
 
   -- ---- the same names
 
@@ -249,34 +249,34 @@ module _ (image : List ℕ) (bytes : Bytes image) (l : Loaded) (p : Parsed image
 
   module _ (accepted : loads image ≡ accepts l) (insts : List Inst) (holds : inst_limit ≤ length insts) where
     written_is : bytes_of_all image l.insts ≡ w
-    written_is = ap (bytes_of_all image) insts-are
+    written_is = ap (bytes_of_all image) insts_are
 
     start : DefinesLast w l.insts start_name l.ip
     start =
-        subst (λ (x : List Inst). DefinesLast w x start_name l.ip) (sym insts-are)
-        (start_too l.ip (subst (λ (x : List Inst). DefinesLast image x start_name l.ip) insts-are (valid image l bytes accepted).start_is))
+        subst (λ (x : List Inst). DefinesLast w x start_name l.ip) (sym insts_are)
+        (start_too l.ip (subst (λ (x : List Inst). DefinesLast image x start_name l.ip) insts_are (valid image l bytes accepted).start_is))
 
     rewritten : Rewritten image insts l
     rewritten =
         record {
           written = w;
-          records_are = subst (RecordsAre image) (sym insts-are) records;
+          records_are = subst (RecordsAre image) (sym insts_are) records;
           room = room;
           writes = writes image insts l w (valid image l bytes accepted).well (omega (arith, p.passes.fits)) written_is short;
           kept = bytes_kept image w bytes s r to_end same;
-          names-are = λ k _. subst (λ (x : List Inst). SameName image w (get_or x k halt)) (sym insts-are) (names k);
+          names_are = λ k _. subst (λ (x : List Inst). SameName image w (get_or x k halt)) (sym insts_are) (names k);
           nothing_appended = (end_halts, begins_all);
           start_is = start;
           too_long = too_long;
           longest = longest;
           loads_again = λ insts₂ labels₂ h k. enough w insts₂ labels₂ h k ∙ loads_as_before;
           writes_again = λ h insts₂ holds₂. (let v = valid w l bytes_too (loads_alike h) in
-              writes w insts₂ l w v.well (omega (arith, p.passes.fits)) (ap (bytes_of_all w) insts-are ∙ bytes_same image w (is ++ t) (λ k _. names k)) short);
+              writes w insts₂ l w v.well (omega (arith, p.passes.fits)) (ap (bytes_of_all w) insts_are ∙ bytes_same image w (is ++ t) (λ k _. names k)) short);
         }
 
 pub images_are_rewritten : ImagesAreRewritten
 images_are_rewritten image insts labels l bytes e =
-    let a = load-accepts image insts labels l e in
+    let a = load_accepts image insts labels l e in
     let p = parsed image l a.accepted in
     let t = tail_of p.last.insts in
-    rewritten image bytes l p t.0 t.1 t.2 a.accepted insts a.insts-room
+    rewritten image bytes l p t.0 t.1 t.2 a.accepted insts a.insts_room

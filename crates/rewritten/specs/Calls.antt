@@ -37,8 +37,8 @@ pub record Encodes (image insts : List ℕ) (count : ℕ) (written : List ℕ) :
 -- front on, and an encoding with these writes the same bytes
 pub record LoadsAgain (l : Loaded) (ip count : ℕ) (written insts labels : List ℕ) (r : Loading) (insts' labels' : List ℕ) : Type 0 where
   pub answer_is : r ≡ cond (leb (length written) image_limit) (loading.Accepted ip count) (loading.Refused 1)
-  pub insts-are : insts' ≡ insts_left (loaded_again l written) insts
-  pub labels-are : labels' ≡ labels_left (loaded_again l written) labels
+  pub insts_are : insts' ≡ insts_left (loaded_again l written) insts
+  pub labels_are : labels' ≡ labels_left (loaded_again l written) labels
   pub encodes_again : length written ≤ image_limit → Encodes written insts' count written
 
 -- An accepted load, with its pointer and count, that left the instruction table insts': all that the definitions say of what it loaded, of these calls. The

@@ -33,7 +33,7 @@ pub record EndsWithHalt (image : List ℕ) : Type 0 where
 -- For an image of which so many instructions were loaded: its own length where its last instruction is HALT, and then all of them are the image's. One byte
 -- more where it isn't, exactly then: they are the image's and one more, the appended HALT
 pub data RoomIs (image : List ℕ) (count : ℕ) : ℕ → Type 0 where
-  own-length : EndsWithHalt image → Begins image count (length image) → RoomIs image count (length image)
+  own_length : EndsWithHalt image → Begins image count (length image) → RoomIs image count (length image)
   one_more : (EndsWithHalt image → ⊥) → (n : ℕ) → Begins image n (length image) → count ≡ suc n → RoomIs image count (suc (length image))
 
 -- the loaded instructions: each one of the image is the record with its number, and where there is one behind them it is HALT
@@ -82,7 +82,7 @@ pub record Rewritten (image : List ℕ) (insts : List Inst) (l : Loaded) : Type 
   pub room : RoomIs image (count_of l) (length written)
   pub writes : Writes image insts l written
   pub kept : BytesKept image written
-  pub names-are : (k : ℕ) → k < count_of l → SameName image written (get_or l.insts k halt)
+  pub names_are : (k : ℕ) → k < count_of l → SameName image written (get_or l.insts k halt)
   -- it ends with HALT and all loaded instructions are its own: nothing is appended to it. And `_start` is defined last where it was
   pub nothing_appended : EndsWithHalt written × Begins written (count_of l) (length written)
   pub start_is : DefinesLast written l.insts start_name l.ip

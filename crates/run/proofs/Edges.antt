@@ -28,8 +28,8 @@ use Rattle.known.specs.Known.{known_limit, unknown, Known}
 use Rattle.run.specs.declared.progress.Progress.{Progress}
 use Rattle.run.specs.Turns.{ending_of, closed, asking, ending, over, IsOver}
 use Rattle.run.specs.Runs.{Reaches, Begins, run_bytes, progress_of, ExecuteParts}
-use Rattle.run.proofs.Courses.{more-none, halts, spends, ills, none_written}
-use Rattle.run.proofs.Running.{stands-over}
+use Rattle.run.proofs.Courses.{more_none, halts, spends, ills, none_written}
+use Rattle.run.proofs.Running.{stands_over}
 
 module _ (image xs : List ℕ) (labels : List Label) (count : ℕ) (m : Machine) where
   pub too_high : stack_limit < m.height → well_state (lent_program image (insts_of xs) labels count) m ≡ false
@@ -51,7 +51,7 @@ module _ (p : Program) (xs b : List ℕ) (limit : ℕ) (m : Machine) where
   at_once left kind number q i o r =
       let z : limit - left ≡ 0 = omega arith in
       record {
-        stands = stands-over (record {
+        stands = stands_over (record {
           is = ap (λ (n : ℕ). closed n (ending (registers_of m) m.flags left 0 kind number) b m.stack m.calls m.memory) z
               ∙ ap (λ (x : Bool). ended (ending_of kind number) (of_parts (registers_of m) m.flags m.stack m.calls m.memory x)) (sym i)
               ∙ sym r;
@@ -63,14 +63,14 @@ module _ (p : Program) (xs b : List ℕ) (limit : ℕ) (m : Machine) where
         });
       }
 
-  pub begins-halted : m.halted ≡ true → Begins p xs b limit m (ending (registers_of m) m.flags limit 0 0 0)
-  begins-halted i = at_once limit 0 0 refl i refl (halts p limit (length b / 8) m i)
+  pub begins_halted : m.halted ≡ true → Begins p xs b limit m (ending (registers_of m) m.flags limit 0 0 0)
+  begins_halted i = at_once limit 0 0 refl i refl (halts p limit (length b / 8) m i)
 
   pub begins_spent : m.halted ≡ false → limit ≡ 0 → Begins p xs b limit m (ending (registers_of m) m.flags 0 0 1 0)
   begins_spent i z = at_once 0 1 0 (sym z) i refl (spends p limit (length b / 8) m i z)
 
-  pub begins-ill : m.halted ≡ false → (limit ≡ 0 → ⊥) → well_state p m ≡ false → Begins p xs b limit m (ending (registers_of m) m.flags limit 0 2 34)
-  begins-ill i z w = at_once limit 2 34 refl i refl (ills p limit (length b / 8) m i (omega (arith, z)) w)
+  pub begins_ill : m.halted ≡ false → (limit ≡ 0 → ⊥) → well_state p m ≡ false → Begins p xs b limit m (ending (registers_of m) m.flags limit 0 2 34)
+  begins_ill i z w = at_once limit 2 34 refl i refl (ills p limit (length b / 8) m i (omega (arith, z)) w)
 
 -- a fresh array knows nothing
 nothing : (p : Program) (xs targets : List ℕ) → Known p xs (replicate known_limit unknown) targets
@@ -82,15 +82,15 @@ unfolding name_in
 outside image h = rw (lt-leb (0xFFFFFFFFFFFFFFFF + 0xFFFFFFFFFFFFFFFF) (length image) (omega arith)) refl
 
 -- a run that makes steps
-pub begins-on : (image xs : List ℕ) (labels : List Label) (count : ℕ) (b : List ℕ) (limit : ℕ) (c : Registers) (f : ℕ) (h : Bool) (s ca me : List ℕ) → length image < 2 ^ 64 →
+pub begins_on : (image xs : List ℕ) (labels : List Label) (count : ℕ) (b : List ℕ) (limit : ℕ) (c : Registers) (f : ℕ) (h : Bool) (s ca me : List ℕ) → length image < 2 ^ 64 →
     h ≡ false → Inside c → count * 32 ≤ length xs →
     Begins (lent_program image (insts_of xs) labels count) xs b limit (of_parts c f s ca me h) (asking c f limit 0 0xFFFFFFFFFFFFFFFF 0xFFFFFFFFFFFFFFFF)
-begins-on image xs labels count b limit c f h s ca me fits i small inside =
+begins_on image xs labels count b limit c f h s ca me fits i small inside =
     let z : limit - limit ≡ 0 = omega arith in
     record {
       stands = record {
         running = λ e. rw i (record {
-          is = simp (z, sub-zero) (more-none _);
+          is = simp (z, sub-zero) (more_none _);
           small = small;
           fewer = omega arith;
           filled = omega arith;
@@ -98,7 +98,7 @@ begins-on image xs labels count b limit c f h s ca me fits i small inside =
           written = none_written b;
           over = record { table = refl; inside = inside };
           known = nothing _ xs (replicate known_limit 0);
-          sized = record { keys-long = length-replicate {A = ℕ} known_limit unknown; targets-long = length-replicate {A = ℕ} known_limit 0 };
+          sized = record { keys_long = length-replicate {A = ℕ} known_limit unknown; targets_long = length-replicate {A = ℕ} known_limit 0 };
         });
         named = λ e n. never (sym (outside image fits) ∙ n);
         reached = λ e. never (sym e);

@@ -9,8 +9,8 @@ use lib.ListN.{length, take, drop}
 use lib.Seq.{sets}
 use Rattle.word.specs.Words.{eight_of}
 use Rattle.tables.specs.Tables.{numbers_in}
-use Rattle.tables.proofs.Bytes.{eight-long}
-use Rattle.inst.proofs.Parts.{lent-part}
+use Rattle.tables.proofs.Bytes.{eight_long}
+use Rattle.inst.proofs.Parts.{lent_part}
 use borrow.Author.Tests.{eq-eqb, ne_eqb}
 use Rattle.machine.specs.declared.Machine.{Machine}
 use Rattle.machine.specs.declared.Ending.TheVariants.{Halted, Number}
@@ -25,7 +25,7 @@ use Rattle.step.specs.declared.Tried.{Tried}
 use Rattle.run.specs.declared.follows.Turn.{Turn}
 use Rattle.run.specs.declared.follows.Turn.TheVariants.{Go, End}
 use Rattle.run.specs.Turns.{more, turned, Fills, Follows, FollowsTry, ending}
-use Rattle.run.proofs.Courses.{more-next, more-dump, more-ended, more-last, took, cell-written}
+use Rattle.run.proofs.Courses.{more_next, more_dump, more_ended, more_last, took, cell_written}
 
 -- the answer is d
 pub for_answer : {a d : Executed} {c : Registers} {f left n : ℕ} {b b' : List ℕ} {r : Turn} → a ≡ d → Follows d c f left n b b' r → Follows a c f left n b b' r
@@ -62,10 +62,10 @@ module _ (c : Registers) (f : ℕ) (s ca me : List ℕ) (rest : ℕ → Machine 
   is_ill_lem = ap (turn (of_parts c f s ca me false) rest room ill) (before_ill (of_parts c f s ca me false) left room ill refl l refl)
 
 -- the rest behind n cells was lent, and came back as ys: with the cell x at its front
-pub lent-cell : (b ys : List ℕ) (n x : ℕ) → n < length b / 8 → ys ≡ sets (take (length b - n * 8) (drop (n * 8) b)) 0 (eight_of x)
+pub lent_cell : (b ys : List ℕ) (n x : ℕ) → n < length b / 8 → ys ≡ sets (take (length b - n * 8) (drop (n * 8) b)) 0 (eight_of x)
     → take (n * 8) b ++ (ys ++ drop (length b - n * 8) (drop (n * 8) b)) ≡ sets b (n * 8) (eight_of x)
 unfolding eight_of
-lent-cell b ys n x h q = lent-part b ys (eight_of x) (n * 8) (length b) (omega arith) (omega arith) q
+lent_cell b ys n x h q = lent_part b ys (eight_of x) (n * 8) (length b) (omega arith) (omega arith) q
 
 -- too few bytes for a cell behind n cells, and enough
 pub no_slot : (b : List ℕ) (n : ℕ) → n * 8 ≤ length b → length b - n * 8 < 8 → length b / 8 ≤ n
@@ -83,7 +83,7 @@ module _ (c : Registers) (f left n : ℕ) (b : List ℕ) (l : 0 < left) (h : n *
   after_next on i =
       record {
         followed = (
-          λ s ca me s' ca' me' rest k u. ap (more k (take n (numbers_in b))) (succeeded c f s ca me rest left (length b / 8 - n) l (of_parts on f s' ca' me' false)) ∙ more-next k (take n (numbers_in b)) _,
+          λ s ca me s' ca' me' rest k u. ap (more k (take n (numbers_in b))) (succeeded c f s ca me rest left (length b / 8 - n) l (of_parts on f s' ca' me' false)) ∙ more_next k (take n (numbers_in b)) _,
           i,
           none n b h,
         );
@@ -93,25 +93,25 @@ module _ (c : Registers) (f left n : ℕ) (b : List ℕ) (l : 0 < left) (h : n *
   after_compared on g i =
       record {
         followed = (
-          λ s ca me s' ca' me' rest k u. ap (more k (take n (numbers_in b))) (succeeded c f s ca me rest left (length b / 8 - n) l (of_parts on g s' ca' me' false)) ∙ more-next k (take n (numbers_in b)) _,
+          λ s ca me s' ca' me' rest k u. ap (more k (take n (numbers_in b))) (succeeded c f s ca me rest left (length b / 8 - n) l (of_parts on g s' ca' me' false)) ∙ more_next k (take n (numbers_in b)) _,
           i,
           none n b h,
         );
       }
 
-  pub after-dump : n < length b / 8 → (on : Registers) (x : ℕ) → Inside on → Follows (Dump on x) c f left n b (sets b (n * 8) (eight_of x)) (Go on f (n + 1))
-  after-dump g on x i =
+  pub after_dump : n < length b / 8 → (on : Registers) (x : ℕ) → Inside on → Follows (Dump on x) c f left n b (sets b (n * 8) (eight_of x)) (Go on f (n + 1))
+  after_dump g on x i =
       let z : length b / 8 - n ≡ 0 → ⊥ = λ e. omega arith in
       let e : length b / 8 - n - 1 ≡ length b / 8 - (n + 1) = omega arith in
       record {
         followed = (
           λ s ca me s' ca' me' rest k u.
               ap (more k (take n (numbers_in b))) (dumped c f s ca me rest left (length b / 8 - n) l x (of_parts on f s' ca' me' false) z)
-              ∙ more-dump k x (take n (numbers_in b)) (rest (length b / 8 - n - 1) (of_parts on f s' ca' me' false))
+              ∙ more_dump k x (take n (numbers_in b)) (rest (length b / 8 - n - 1) (of_parts on f s' ca' me' false))
               ∙ ap (λ (r : ℕ). more (k + 1) (take n (numbers_in b) ++ (x ∷ [])) (rest r (of_parts on f s' ca' me' false))) e
               ∙ ap (λ (out : List ℕ). more (k + 1) out (rest (length b / 8 - (n + 1)) (of_parts on f s' ca' me' false))) (sym (took b n x g)),
           i,
-          record { filled = omega arith; long = eight-long b _ x; written = λ b₀ e. cell-written b b₀ n x g e },
+          record { filled = omega arith; long = eight_long b _ x; written = λ b₀ e. cell_written b b₀ n x g e },
         );
       }
 
@@ -122,7 +122,7 @@ module _ (c : Registers) (f left n : ℕ) (b : List ℕ) (l : 0 < left) (h : n *
         followed = (
           λ s ca me s' ca' me' rest k q u.
               ap (more k (take n (numbers_in b))) (full c f s ca me rest left (length b / 8 - n) l x (of_parts on f s' ca' me' false) z)
-              ∙ more-ended k (left - left) (take n (numbers_in b)) (Number 33) (of_parts c f s ca me false) (omega arith)
+              ∙ more_ended k (left - left) (take n (numbers_in b)) (Number 33) (of_parts c f s ca me false) (omega arith)
               ∙ rw (u.0, u.1, u.2) refl,
           omega arith,
           refl,
@@ -130,40 +130,40 @@ module _ (c : Registers) (f left n : ℕ) (b : List ℕ) (l : 0 < left) (h : n *
         );
       }
 
-  pub after-halt : (on : Registers) → Follows (Halt on) c f left n b b (End (ending on f (left - 1) n 0 0))
-  after-halt on =
+  pub after_halt : (on : Registers) → Follows (Halt on) c f left n b b (End (ending on f (left - 1) n 0 0))
+  after_halt on =
       record {
         followed = (
           λ s ca me s' ca' me' rest k q u.
               ap (more k (take n (numbers_in b))) (succeeded c f s ca me rest left (length b / 8 - n) l (of_parts on f s' ca' me' true))
               ∙ ap (λ (r : Course). more k (take n (numbers_in b)) (after [] r)) (q (length b / 8 - n) (of_parts on f s' ca' me' true) refl)
-              ∙ more-last k (left - (left - 1)) (take n (numbers_in b)) Halted (of_parts on f s' ca' me' true) (omega arith),
+              ∙ more_last k (left - (left - 1)) (take n (numbers_in b)) Halted (of_parts on f s' ca' me' true) (omega arith),
           omega arith,
           refl,
           none n b h,
         );
       }
 
-  pub after-trap : (on : Registers) (t : ℕ) → Follows (Trap on t) c f left n b b (End (ending on f (left - 1) n 2 t))
-  after-trap on t =
+  pub after_trap : (on : Registers) (t : ℕ) → Follows (Trap on t) c f left n b b (End (ending on f (left - 1) n 2 t))
+  after_trap on t =
       record {
         followed = (
           λ s ca me s' ca' me' rest k q u.
               ap (more k (take n (numbers_in b))) (trapped c f s ca me rest left (length b / 8 - n) l t (of_parts on f s' ca' me' false))
-              ∙ more-last k (left - (left - 1)) (take n (numbers_in b)) (Number t) (of_parts on f s' ca' me' false) (omega arith),
+              ∙ more_last k (left - (left - 1)) (take n (numbers_in b)) (Number t) (of_parts on f s' ca' me' false) (omega arith),
           omega arith,
           refl,
           none n b h,
         );
       }
 
-  pub after-ill : Follows Ill c f left n b b (End (ending c f left n 2 34))
-  after-ill =
+  pub after_ill : Follows Ill c f left n b b (End (ending c f left n 2 34))
+  after_ill =
       record {
         followed = (
           λ s ca me s' ca' me' rest k q u.
               ap (more k (take n (numbers_in b))) (is_ill_lem c f s ca me rest left (length b / 8 - n) l)
-              ∙ more-ended k (left - left) (take n (numbers_in b)) (Number 34) (of_parts c f s ca me false) (omega arith)
+              ∙ more_ended k (left - left) (take n (numbers_in b)) (Number 34) (of_parts c f s ca me false) (omega arith)
               ∙ rw (u.0, u.1, u.2) refl,
           omega arith,
           refl,

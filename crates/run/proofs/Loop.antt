@@ -27,7 +27,7 @@ use Rattle.run.specs.declared.follows.Turn.{Turn}
 use Rattle.run.specs.declared.follows.Turn.TheVariants.{Go, End}
 use Rattle.run.specs.Turns.{FollowsTry, ending}
 use Rattle.run.specs.Runs.{machine_at, reached_by, Running, Stands, weight, Advances}
-use Rattle.run.proofs.Running.{is_over, known_on, went, ended_by, off, stands-over}
+use Rattle.run.proofs.Running.{is_over, known_on, went, ended_by, off, stands_over}
 
 -- the weight that a run has at first, with what was found
 abbrev first : ℕ → LookedUp → ℕ
@@ -91,8 +91,8 @@ module _ {image xs : List ℕ} {count : ℕ} where
 
   module _ {r₀ : Reached} {n₀ : ℕ} {asked : LookedUp} {b₀ : List ℕ} {a₀ : Arrays} {r : Reached} {n : ℕ} {found : LookedUp} {b : List ℕ} {a : Arrays}
       (inv : Loops image xs count r₀ n₀ asked b₀ a₀ r n found b a) where
-    some-weight : r.left < first r₀.left asked
-    some-weight = by (is_asked asked)
+    some_weight : r.left < first r₀.left asked
+    some_weight = by (is_asked asked)
       where
         by : (x : Bool) → r.left < r₀.left + cond x 1 2
         by true = omega (arith, inv.fewer)
@@ -101,7 +101,7 @@ module _ {image xs : List ℕ} {count : ℕ} where
     -- no step is left
     pub loop_over : r.left ≡ 0 → Stops image xs count r₀ n₀ asked b₀ a₀ (ending r.regs r.flags 0 n 1 0) b a
     loop_over z =
-        record { stops = λ labels buffer limit run at told. (stands-over (is_over (inv.runs labels buffer limit run at told).0 z), λ e. never e) }
+        record { stops = λ labels buffer limit run at told. (stands_over (is_over (inv.runs labels buffer limit run at told).0 z), λ e. never e) }
 
     module _ (l : 0 < r.left) {a' : Arrays} {b' : List ℕ} where
       -- a step, and the known ones behind it
@@ -119,7 +119,7 @@ module _ {image xs : List ℕ} {count : ℕ} where
             sized = tries.sized;
             listed = tries.listed;
             fewer = omega (arith, k.fewer, inv.fewer);
-            lighter = λ z. omega (arith, k.fewer, some-weight);
+            lighter = λ z. omega (arith, k.fewer, some_weight);
             runs = λ labels buffer limit run at told.
                 let now = inv.runs labels buffer limit run at told in
                 let made = tries.tried labels now.1 in
@@ -135,7 +135,7 @@ module _ {image xs : List ℕ} {count : ℕ} where
             stops = λ labels buffer limit run at told.
                 let now = inv.runs labels buffer limit run at told in
                 let made = tries.tried labels now.1 in
-                (stands-over (ended_by now.0 l a' made.0 q.followed), λ e. never (sym (off q.followed.followed.2) ∙ e));
+                (stands_over (ended_by now.0 l a' made.0 q.followed), λ e. never (sym (off q.followed.followed.2) ∙ e));
           }
       loop_stops (Asks start len) tries q =
           rw (end_of q.followed.0, q.followed.1) (record {

@@ -17,13 +17,13 @@ use Rattle.step_core.specs.Parts.{means}
 use Rattle.quick.specs.declared.Reached.{Reached}
 use Rattle.known.specs.Known.{Known, Sized}
 use Rattle.quick.specs.Courses as quick
-use Rattle.quick.proofs.Turns.{course-turn}
+use Rattle.quick.proofs.Turns.{course_turn}
 use Rattle.step.specs.Steps.{Arrays, arrays, Made}
 use Rattle.run.specs.declared.progress.Progress.{Progress}
 use Rattle.run.specs.declared.follows.Turn.TheVariants.{Go, End}
 use Rattle.run.specs.Turns.{more, closed, turned, Follows, ending, IsOver}
 use Rattle.run.specs.Runs.{machine_at, Running, Reaches, Stands, Ready}
-use Rattle.run.proofs.Courses.{more-plus, more-ended, spends, resting}
+use Rattle.run.proofs.Courses.{more_plus, more_ended, spends, resting}
 
 module _ {p : Program} {xs b₀ : List ℕ} {limit : ℕ} {run : Course} {r : Reached} {n : ℕ} {b : List ℕ} {a : Arrays}
     (inv : Running p xs b₀ limit run r n b a) where
@@ -33,7 +33,7 @@ module _ {p : Program} {xs b₀ : List ℕ} {limit : ℕ} {run : Course} {r : Re
       let e : limit - 0 ≡ limit - r.left + 0 = omega arith in
       record {
         is = ap (λ (k : ℕ). closed k (ending r.regs r.flags 0 n 1 0) b a.stack a.calls a.memory) e
-            ∙ sym (more-ended (limit - r.left) 0 (take n (numbers_in b)) Limit (machine_at r a) refl)
+            ∙ sym (more_ended (limit - r.left) 0 (take n (numbers_in b)) Limit (machine_at r a) refl)
             ∙ ap (more (limit - r.left) (take n (numbers_in b))) (sym (spends p r.left (length b₀ / 8 - n) (machine_at r a) refl z))
             ∙ inv.is;
         long = inv.long;
@@ -51,7 +51,7 @@ module _ {p : Program} {xs b₀ : List ℕ} {limit : ℕ} {run : Course} {r : Re
       let on = course p r'.left (length b₀ / 8 - n) (machine_at r' (arrays a.keys a.targets s' ca' me')) in
       record {
         is = ap (λ (k : ℕ). more k (take n (numbers_in b)) on) (sym e)
-            ∙ sym (more-plus (limit - r.left) (r.left - r'.left) (take n (numbers_in b)) on)
+            ∙ sym (more_plus (limit - r.left) (r.left - r'.left) (take n (numbers_in b)) on)
             ∙ ap (more (limit - r.left) (take n (numbers_in b))) (q.leads p inv.over inv.known (length b₀ / 8 - n))
             ∙ inv.is;
         small = q.small;
@@ -68,7 +68,7 @@ module _ {p : Program} {xs b₀ : List ℕ} {limit : ℕ} {run : Course} {r : Re
     stepped : more (limit - r.left) (take n (numbers_in b)) (turned (machine_at r a) (course p (r.left - 1)) r.left (length b / 8 - n) (means r.flags x a'.stack a'.calls a'.memory)) ≡ run
     stepped =
         rw (inv.long, made.does)
-        (ap (more (limit - r.left) (take n (numbers_in b))) (sym (course-turn p r.left (length b₀ / 8 - n) (machine_at r a) l)) ∙ inv.is)
+        (ap (more (limit - r.left) (take n (numbers_in b))) (sym (course_turn p r.left (length b₀ / 8 - n) (machine_at r a) l)) ∙ inv.is)
 
     -- a step, and on
     pub went : {b' : List ℕ} → Sized a'.keys a'.targets → (Known p xs a.keys a.targets → Known p xs a'.keys a'.targets) → {on : Registers} {g n' : ℕ} →
@@ -108,9 +108,9 @@ pub off : {o : Progress} → IsOver o → o.on ≡ false
 off e = ap (λ (o : Progress). o.on) e
 
 -- a run that is over stands
-pub stands-over : {p : Program} {xs b₀ : List ℕ} {limit : ℕ} {run : Course} {o : Progress} {b : List ℕ} {a : Arrays} →
+pub stands_over : {p : Program} {xs b₀ : List ℕ} {limit : ℕ} {run : Course} {o : Progress} {b : List ℕ} {a : Arrays} →
     Reaches run limit b₀ o b a.stack a.calls a.memory → Stands p xs b₀ limit run o b a
-stands-over r =
+stands_over r =
     let e = off r.shape in
     record { running = λ t. never (sym e ∙ t); named = λ t. never (sym e ∙ t); reached = λ t. r }
 

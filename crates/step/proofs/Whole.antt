@@ -56,10 +56,10 @@ is_named op false true false p q r h = never h
 is_named op false false b p q r h = never h
 
 -- the name of a jump or CALL lies in the image
-pub name-lies : (image xs : List ℕ) (ip : ℕ) → well_formed image (inst_of xs ip) ≡ true → looks_up (number_at xs (ip * 4)) ≡ true →
+pub name_lies : (image xs : List ℕ) (ip : ℕ) → well_formed image (inst_of xs ip) ≡ true → looks_up (number_at xs (ip * 4)) ≡ true →
     name_in image (number_at xs (ip * 4 + 2)) (number_at xs (ip * 4 + 3)) ≡ true
 unfolding well_formed fits
-name-lies image xs ip w l =
+name_lies image xs ip w l =
     let op = number_at xs (ip * 4) in
     and_right (eqb (number_at xs (ip * 4 + 1)) 0) _ (rw (is_named op (eqb op 28) (leb 12 op) (leb op 20) refl refl refl l) at w)
 

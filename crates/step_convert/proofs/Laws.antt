@@ -44,25 +44,25 @@ module _ (c : ℕ) where
 
 -- I64 and U64 are known, and aren't F64
 module _ (t : CellType) (h : (eqb (number_of t) (number_of I64) || eqb (number_of t) (number_of U64)) ≡ true) where
-  whole-types : (u : CellType) → t ≡ u → (not (eqb (number_of u) (number_of Unknown)) ≡ true) × (eqb (number_of u) (number_of F64) ≡ false)
+  whole_types : (u : CellType) → t ≡ u → (not (eqb (number_of u) (number_of Unknown)) ≡ true) × (eqb (number_of u) (number_of F64) ≡ false)
   unfolding number_of
-  whole-types F64 e = never (rw e at h)
-  whole-types I64 e = (refl, refl)
-  whole-types U64 e = (refl, refl)
-  whole-types Ptr e = never (rw e at h)
-  whole-types Unknown e = never (rw e at h)
+  whole_types F64 e = never (rw e at h)
+  whole_types I64 e = (refl, refl)
+  whole_types U64 e = (refl, refl)
+  whole_types Ptr e = never (rw e at h)
+  whole_types Unknown e = never (rw e at h)
 
-  pub whole-known : not (eqb (number_of t) (number_of Unknown)) ≡ true
-  whole-known = (whole-types t refl).0
+  pub whole_known : not (eqb (number_of t) (number_of Unknown)) ≡ true
+  whole_known = (whole_types t refl).0
 
   pub whole_float : eqb (number_of t) (number_of F64) ≡ false
-  whole_float = (whole-types t refl).1
+  whole_float = (whole_types t refl).1
 
 -- U2I and U2F take every whole cell
 pub late_whole : (c : ℕ) (x : Bool) → whole c ≡ true → conversion_trap (cond x U2I U2F) c ≡ 0
 unfolding conversion_trap rule_of
-late_whole c true e = simp (whole-known (cells.type_of c) e, e)
-late_whole c false e = simp (whole-known (cells.type_of c) e, e)
+late_whole c true e = simp (whole_known (cells.type_of c) e, e)
+late_whole c false e = simp (whole_known (cells.type_of c) e, e)
 
 -- ---- the code's test for below zero
 
@@ -103,9 +103,9 @@ module _ (k : Conversion) (m : Machine) where
   convert_short h = fails _ _ _ _ h
 
   module _ (h : ltb 0 m.height ≡ true) (t : ℕ) (e : t ≡ conversion_trap k (top m)) where
-    pub convert-traps : (t ≡ 0 → ⊥) → convert k m ≡ trap t (popped m)
+    pub convert_traps : (t ≡ 0 → ⊥) → convert k m ≡ trap t (popped m)
     unfolding convert conversion_trap
-    convert-traps z = passes _ _ _ _ h ∙ stops _ _ (type_known (top m)) (rule_of k (top m)).takes (rule_of k (top m)).below t e z
+    convert_traps z = passes _ _ _ _ h ∙ stops _ _ (type_known (top m)) (rule_of k (top m)).takes (rule_of k (top m)).below t e z
 
     pub convert_does : t ≡ 0 → convert k m ≡ succeeds (onward (replaced (rule_of k (top m)).gives m))
     unfolding convert conversion_trap

@@ -85,9 +85,9 @@ module _ (k : Integer) (m : Machine) where
   integer_short h = fails _ _ _ _ h
 
   module _ (h : leb 2 m.height ≡ true) where
-    pub integer-types : (is I64 (top (popped m)) && is I64 (top m)) ≡ false → integer_step k m ≡ trap (type_trap (top (popped m)) (top m)) (popped m)
+    pub integer_types : (is I64 (top (popped m)) && is I64 (top m)) ≡ false → integer_step k m ≡ trap (type_trap (top (popped m)) (top m)) (popped m)
     unfolding type_trap
-    integer-types e = not_both_i64 k m h e
+    integer_types e = not_both_i64 k m h e
 
     module _ (e : (is I64 (top (popped m)) && is I64 (top m)) ≡ true) where
       typed : integer_step k m ≡ (popped m must divides k (top m) else 24 then succeeds (onward (replaced (of_cells k (top (popped m)) (top m)) (popped m))))

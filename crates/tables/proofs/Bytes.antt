@@ -77,32 +77,32 @@ behind_eight a b c d e f g h l vs i =
     sets_behind a _ vs _
     ∙ rw (sets_behind b _ vs (suc (suc (suc (suc (suc (suc i)))))), sets_behind c _ vs (suc (suc (suc (suc (suc i))))), sets_behind d _ vs (suc (suc (suc (suc i)))), sets_behind e _ vs (suc (suc (suc i))), sets_behind f _ vs (suc (suc i)), sets_behind g _ vs (suc i), sets_behind h l vs i)
 
-sets-none : (vs : List ℕ) (i : ℕ) → ◌≡◌ {A = List ℕ} (sets [] i vs) []
-sets-none [] i = refl
-sets-none (v ∷ vs) i = sets-none vs (suc i)
+sets_none : (vs : List ℕ) (i : ℕ) → ◌≡◌ {A = List ℕ} (sets [] i vs) []
+sets_none [] i = refl
+sets_none (v ∷ vs) i = sets_none vs (suc i)
 
 short : (vs bs : List ℕ) (n : ℕ) → length bs < 8 → numbers_in (sets bs (n * 8) (bytes_of vs)) ≡ sets (numbers_in bs) n vs
-short vs bs n l = no_number _ (rw length-sets l) ∙ rw (no_number bs l) (sym (sets-none vs n))
+short vs bs n l = no_number _ (rw length-sets l) ∙ rw (no_number bs l) (sym (sets_none vs n))
 
 -- numbers stored from number n on, as numbers and as bytes; also where they don't fit
-pub numbers-sets : (vs bs : List ℕ) (n : ℕ) → numbers_in (sets bs (n * 8) (bytes_of vs)) ≡ sets (numbers_in bs) n vs
+pub numbers_sets : (vs bs : List ℕ) (n : ℕ) → numbers_in (sets bs (n * 8) (bytes_of vs)) ≡ sets (numbers_in bs) n vs
 unfolding numbers_in bytes_of eight_of
-numbers-sets [] bs n = refl
-numbers-sets (v ∷ vs) [] n = short (v ∷ vs) [] n (omega arith)
-numbers-sets (v ∷ vs) (a ∷ []) n = short (v ∷ vs) (a ∷ []) n (omega arith)
-numbers-sets (v ∷ vs) (a ∷ b ∷ []) n = short (v ∷ vs) (a ∷ b ∷ []) n (omega arith)
-numbers-sets (v ∷ vs) (a ∷ b ∷ c ∷ []) n = short (v ∷ vs) (a ∷ b ∷ c ∷ []) n (omega arith)
-numbers-sets (v ∷ vs) (a ∷ b ∷ c ∷ d ∷ []) n = short (v ∷ vs) (a ∷ b ∷ c ∷ d ∷ []) n (omega arith)
-numbers-sets (v ∷ vs) (a ∷ b ∷ c ∷ d ∷ e ∷ []) n = short (v ∷ vs) (a ∷ b ∷ c ∷ d ∷ e ∷ []) n (omega arith)
-numbers-sets (v ∷ vs) (a ∷ b ∷ c ∷ d ∷ e ∷ f ∷ []) n = short (v ∷ vs) (a ∷ b ∷ c ∷ d ∷ e ∷ f ∷ []) n (omega arith)
-numbers-sets (v ∷ vs) (a ∷ b ∷ c ∷ d ∷ e ∷ f ∷ g ∷ []) n = short (v ∷ vs) (a ∷ b ∷ c ∷ d ∷ e ∷ f ∷ g ∷ []) n (omega arith)
-numbers-sets (v ∷ vs) (a ∷ b ∷ c ∷ d ∷ e ∷ f ∷ g ∷ h ∷ bs) zero =
+numbers_sets [] bs n = refl
+numbers_sets (v ∷ vs) [] n = short (v ∷ vs) [] n (omega arith)
+numbers_sets (v ∷ vs) (a ∷ []) n = short (v ∷ vs) (a ∷ []) n (omega arith)
+numbers_sets (v ∷ vs) (a ∷ b ∷ []) n = short (v ∷ vs) (a ∷ b ∷ []) n (omega arith)
+numbers_sets (v ∷ vs) (a ∷ b ∷ c ∷ []) n = short (v ∷ vs) (a ∷ b ∷ c ∷ []) n (omega arith)
+numbers_sets (v ∷ vs) (a ∷ b ∷ c ∷ d ∷ []) n = short (v ∷ vs) (a ∷ b ∷ c ∷ d ∷ []) n (omega arith)
+numbers_sets (v ∷ vs) (a ∷ b ∷ c ∷ d ∷ e ∷ []) n = short (v ∷ vs) (a ∷ b ∷ c ∷ d ∷ e ∷ []) n (omega arith)
+numbers_sets (v ∷ vs) (a ∷ b ∷ c ∷ d ∷ e ∷ f ∷ []) n = short (v ∷ vs) (a ∷ b ∷ c ∷ d ∷ e ∷ f ∷ []) n (omega arith)
+numbers_sets (v ∷ vs) (a ∷ b ∷ c ∷ d ∷ e ∷ f ∷ g ∷ []) n = short (v ∷ vs) (a ∷ b ∷ c ∷ d ∷ e ∷ f ∷ g ∷ []) n (omega arith)
+numbers_sets (v ∷ vs) (a ∷ b ∷ c ∷ d ∷ e ∷ f ∷ g ∷ h ∷ bs) zero =
     ap numbers_in (behind_eight (v % 256) (v / 0x100 % 256) (v / 0x10000 % 256) (v / 0x1000000 % 256) (v / 0x100000000 % 256) (v / 0x10000000000 % 256) (v / 0x1000000000000 % 256) (v / 0x100000000000000) bs (bytes_of vs) 0)
-    ∙ rw (number_back v, numbers-sets vs bs 0) (sym (sets_behind v (numbers_in bs) vs 0))
-numbers-sets (v ∷ vs) (a ∷ b ∷ c ∷ d ∷ e ∷ f ∷ g ∷ h ∷ bs) (suc n) =
+    ∙ rw (number_back v, numbers_sets vs bs 0) (sym (sets_behind v (numbers_in bs) vs 0))
+numbers_sets (v ∷ vs) (a ∷ b ∷ c ∷ d ∷ e ∷ f ∷ g ∷ h ∷ bs) (suc n) =
     simp eighth
     (ap numbers_in (behind_eight a b c d e f g h bs (bytes_of (v ∷ vs)) (n * 8))
-    ∙ ap (λ l. number_of a b c d e f g h ∷ l) (numbers-sets (v ∷ vs) bs n)
+    ∙ ap (λ l. number_of a b c d e f g h ∷ l) (numbers_sets (v ∷ vs) bs n)
     ∙ sym (sets_behind (number_of a b c d e f g h) (numbers_in bs) (v ∷ vs) n))
 
 -- bytes stored over as many
@@ -110,7 +110,7 @@ pub sets_over : (us bs vs l : List ℕ) → length us ≡ length bs → sets (se
 sets_over [] [] vs l e = refl
 sets_over [] (b ∷ bs) vs l e = absurd (omega arith)
 sets_over (a ∷ us) [] vs l e = absurd (omega arith)
-sets_over (a ∷ us) (b ∷ bs) vs [] e = ap (λ x. sets x 0 (b ∷ bs)) (sets-none (a ∷ us ++ vs) 0) ∙ sets-none (b ∷ bs) 0 ∙ sym (sets-none (b ∷ bs ++ vs) 0)
+sets_over (a ∷ us) (b ∷ bs) vs [] e = ap (λ x. sets x 0 (b ∷ bs)) (sets_none (a ∷ us ++ vs) 0) ∙ sets_none (b ∷ bs) 0 ∙ sym (sets_none (b ∷ bs ++ vs) 0)
 sets_over (a ∷ us) (b ∷ bs) vs (x ∷ l) e =
     ap (λ y. sets y 0 (b ∷ bs)) (sets_behind a l (us ++ vs) 0)
     ∙ sets_behind b (sets l 0 (us ++ vs)) bs 0
@@ -118,18 +118,18 @@ sets_over (a ∷ us) (b ∷ bs) vs (x ∷ l) e =
     ∙ sym (sets_behind b l (bs ++ vs) 0)
 
 -- four numbers stored
-length-eight : (v : ℕ) → length (eight_of v) ≡ 8
+length_eight : (v : ℕ) → length (eight_of v) ≡ 8
 unfolding eight_of
-length-eight v = refl
+length_eight v = refl
 
 pub stored_more : (l ws : List ℕ) (v i j : ℕ) → j ≡ i + 8 → sets (sets l i (eight_of v)) j ws ≡ sets l i (eight_of v ++ ws)
 stored_more l ws v i j e =
-    let m : j ≡ i + length (eight_of v) = rw (length-eight v) e in
+    let m : j ≡ i + length (eight_of v) = rw (length_eight v) e in
     rw m (sets_more (eight_of v) l ws i)
 
-last-eight : (v : ℕ) → eight_of v ≡ eight_of v ++ []
+last_eight : (v : ℕ) → eight_of v ≡ eight_of v ++ []
 unfolding eight_of
-last-eight v = refl
+last_eight v = refl
 
 pub four_stored : (l l1 l2 l3 l4 : List ℕ) (i a b c d : ℕ) → l1 ≡ sets l (i * 4 * 8) (eight_of a) → l2 ≡ sets l1 ((i * 4 + 1) * 8) (eight_of b)
     → l3 ≡ sets l2 ((i * 4 + 2) * 8) (eight_of c) → l4 ≡ sets l3 ((i * 4 + 3) * 8) (eight_of d) → l4 ≡ sets l (i * 32) (bytes_of (a ∷ b ∷ c ∷ d ∷ []))
@@ -146,33 +146,33 @@ four_stored l l1 l2 l3 l4 i a b c d p q r s =
     ∙ stored_more _ _ c _ _ k3
     ∙ stored_more _ _ b _ _ k2
     ∙ stored_more _ _ a _ _ k1
-    ∙ ap (λ x. sets l (i * 4 * 8) (eight_of a ++ (eight_of b ++ (eight_of c ++ x)))) (last-eight d)
+    ∙ ap (λ x. sets l (i * 4 * 8) (eight_of a ++ (eight_of b ++ (eight_of c ++ x)))) (last_eight d)
     ∙ ap (λ x. sets l x (bytes_of (a ∷ b ∷ c ∷ d ∷ []))) k
 
 -- one number stored
-pub number-set : (bs : List ℕ) (n v : ℕ) → numbers_in (sets bs (n * 8) (eight_of v)) ≡ set (numbers_in bs) n v
+pub number_set : (bs : List ℕ) (n v : ℕ) → numbers_in (sets bs (n * 8) (eight_of v)) ≡ set (numbers_in bs) n v
 unfolding bytes_of eight_of
-number-set bs n v = numbers-sets (v ∷ []) bs n
+number_set bs n v = numbers_sets (v ∷ []) bs n
 
-pub eight-long : (bs : List ℕ) (i v : ℕ) → length (sets bs i (eight_of v)) ≡ length bs
-eight-long bs i v = length-sets bs i (eight_of v)
+pub eight_long : (bs : List ℕ) (i v : ℕ) → length (sets bs i (eight_of v)) ≡ length bs
+eight_long bs i v = length-sets bs i (eight_of v)
 
 -- the numbers past n
-none-past : (bs : List ℕ) (n : ℕ) → length bs < 8 → numbers_in (drop (suc n * 8) bs) ≡ drop (suc n) (numbers_in bs)
+none_past : (bs : List ℕ) (n : ℕ) → length bs < 8 → numbers_in (drop (suc n * 8) bs) ≡ drop (suc n) (numbers_in bs)
 unfolding numbers_in
-none-past bs n l =
+none_past bs n l =
     let h : length bs ≤ suc n * 8 = omega arith in
     rw (drop_of_length-le bs h, no_number bs l) refl
 
-pub numbers-drop : (bs : List ℕ) (n : ℕ) → numbers_in (drop (n * 8) bs) ≡ drop n (numbers_in bs)
+pub numbers_drop : (bs : List ℕ) (n : ℕ) → numbers_in (drop (n * 8) bs) ≡ drop n (numbers_in bs)
 unfolding numbers_in
-numbers-drop bs zero = refl
-numbers-drop [] (suc n) = none-past [] n (omega arith)
-numbers-drop (a ∷ []) (suc n) = none-past (a ∷ []) n (omega arith)
-numbers-drop (a ∷ b ∷ []) (suc n) = none-past (a ∷ b ∷ []) n (omega arith)
-numbers-drop (a ∷ b ∷ c ∷ []) (suc n) = none-past (a ∷ b ∷ c ∷ []) n (omega arith)
-numbers-drop (a ∷ b ∷ c ∷ d ∷ []) (suc n) = none-past (a ∷ b ∷ c ∷ d ∷ []) n (omega arith)
-numbers-drop (a ∷ b ∷ c ∷ d ∷ e ∷ []) (suc n) = none-past (a ∷ b ∷ c ∷ d ∷ e ∷ []) n (omega arith)
-numbers-drop (a ∷ b ∷ c ∷ d ∷ e ∷ f ∷ []) (suc n) = none-past (a ∷ b ∷ c ∷ d ∷ e ∷ f ∷ []) n (omega arith)
-numbers-drop (a ∷ b ∷ c ∷ d ∷ e ∷ f ∷ g ∷ []) (suc n) = none-past (a ∷ b ∷ c ∷ d ∷ e ∷ f ∷ g ∷ []) n (omega arith)
-numbers-drop (a ∷ b ∷ c ∷ d ∷ e ∷ f ∷ g ∷ h ∷ bs) (suc n) = simp eighth (numbers-drop bs n)
+numbers_drop bs zero = refl
+numbers_drop [] (suc n) = none_past [] n (omega arith)
+numbers_drop (a ∷ []) (suc n) = none_past (a ∷ []) n (omega arith)
+numbers_drop (a ∷ b ∷ []) (suc n) = none_past (a ∷ b ∷ []) n (omega arith)
+numbers_drop (a ∷ b ∷ c ∷ []) (suc n) = none_past (a ∷ b ∷ c ∷ []) n (omega arith)
+numbers_drop (a ∷ b ∷ c ∷ d ∷ []) (suc n) = none_past (a ∷ b ∷ c ∷ d ∷ []) n (omega arith)
+numbers_drop (a ∷ b ∷ c ∷ d ∷ e ∷ []) (suc n) = none_past (a ∷ b ∷ c ∷ d ∷ e ∷ []) n (omega arith)
+numbers_drop (a ∷ b ∷ c ∷ d ∷ e ∷ f ∷ []) (suc n) = none_past (a ∷ b ∷ c ∷ d ∷ e ∷ f ∷ []) n (omega arith)
+numbers_drop (a ∷ b ∷ c ∷ d ∷ e ∷ f ∷ g ∷ []) (suc n) = none_past (a ∷ b ∷ c ∷ d ∷ e ∷ f ∷ g ∷ []) n (omega arith)
+numbers_drop (a ∷ b ∷ c ∷ d ∷ e ∷ f ∷ g ∷ h ∷ bs) (suc n) = simp eighth (numbers_drop bs n)

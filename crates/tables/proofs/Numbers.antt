@@ -18,8 +18,8 @@ pub sets_behind : {A : Type 0} (x : A) (l vs : List A) (i : ℕ) → sets (x ∷
 sets_behind x l [] i = refl
 sets_behind x l (v ∷ vs) i = sets_behind x (set l i v) vs (suc i)
 
-pub sets-rest : (a b c d : ℕ) (l vs : List ℕ) → sets (a ∷ b ∷ c ∷ d ∷ l) 4 vs ≡ a ∷ b ∷ c ∷ d ∷ sets l 0 vs
-sets-rest a b c d l vs =
+pub sets_rest : (a b c d : ℕ) (l vs : List ℕ) → sets (a ∷ b ∷ c ∷ d ∷ l) 4 vs ≡ a ∷ b ∷ c ∷ d ∷ sets l 0 vs
+sets_rest a b c d l vs =
     sets_behind a _ vs 3
     ∙ rw (sets_behind b _ vs 2, sets_behind c _ vs 1, sets_behind d l vs 0)
 
@@ -69,31 +69,31 @@ module _ {A : Type 0} (make : ℕ → ℕ → ℕ → ℕ → A) (p q s t : A �
   abbrev four : A → List ℕ
   four r = p r ∷ q r ∷ s r ∷ t r ∷ []
 
-  pub length-numbers : (rs : List A) → length (numbers_of four rs) ≡ 4 * length rs
+  pub length_numbers : (rs : List A) → length (numbers_of four rs) ≡ 4 * length rs
   unfolding numbers_of
-  length-numbers [] = refl
-  length-numbers (r ∷ rs) = let e = length-numbers rs in omega arith
+  length_numbers [] = refl
+  length_numbers (r ∷ rs) = let e = length_numbers rs in omega arith
 
-  pub numbers-append : (rs us : List A) → numbers_of four (rs ++ us) ≡ numbers_of four rs ++ numbers_of four us
+  pub numbers_append : (rs us : List A) → numbers_of four (rs ++ us) ≡ numbers_of four rs ++ numbers_of four us
   unfolding numbers_of
-  numbers-append [] us = refl
-  numbers-append (r ∷ rs) us = rw (numbers-append rs us)
+  numbers_append [] us = refl
+  numbers_append (r ∷ rs) us = rw (numbers_append rs us)
 
   -- nothing is stored where there is no record
-  sets-none : (rs : List A) (i : ℕ) → ◌≡◌ {A = List A} (sets [] i rs) []
-  sets-none [] i = refl
-  sets-none (r ∷ rs) i = sets-none rs (suc i)
+  sets_none : (rs : List A) (i : ℕ) → ◌≡◌ {A = List A} (sets [] i rs) []
+  sets_none [] i = refl
+  sets_none (r ∷ rs) i = sets_none rs (suc i)
 
   short : (rs : List A) (xs : List ℕ) → length xs < 4 → records_of make (sets xs 0 (numbers_of four rs)) ≡ sets (records_of make xs) 0 rs
   short rs xs h =
-      no_record make _ (rw length-sets h) ∙ rw (no_record make xs h) (sym (sets-none rs 0))
+      no_record make _ (rw length-sets h) ∙ rw (no_record make xs h) (sym (sets_none rs 0))
 
   -- records stored from a table's front, as records and as numbers; also where they don't fit
   pub records_sets : (rs : List A) (xs : List ℕ) → records_of make (sets xs 0 (numbers_of four rs)) ≡ sets (records_of make xs) 0 rs
   unfolding records_of numbers_of
   records_sets [] xs = refl
   records_sets (r ∷ rs) (x ∷ y ∷ z ∷ w ∷ xs) =
-      ap (records_of make) (sets-rest (p r) (q r) (s r) (t r) xs (numbers_of four rs))
+      ap (records_of make) (sets_rest (p r) (q r) (s r) (t r) xs (numbers_of four rs))
       ∙ rw (same r, records_sets rs xs) (sym (sets_behind r (records_of make xs) rs 0))
   records_sets (r ∷ rs) [] = short (r ∷ rs) [] (omega arith)
   records_sets (r ∷ rs) (x ∷ []) = short (r ∷ rs) (x ∷ []) (omega arith)
@@ -101,8 +101,8 @@ module _ {A : Type 0} (make : ℕ → ℕ → ℕ → ℕ → A) (p q s t : A �
   records_sets (r ∷ rs) (x ∷ y ∷ z ∷ []) = short (r ∷ rs) (x ∷ y ∷ z ∷ []) (omega arith)
 
 -- the two tables
-pub insts-append : (is js : List Inst) → numbers_of inst_numbers (is ++ js) ≡ numbers_of inst_numbers is ++ numbers_of inst_numbers js
-insts-append = numbers-append inst (λ i. i.typ) (λ i. i.val) (λ i. i.start) (λ i. i.len) (λ _. refl)
+pub insts_append : (is js : List Inst) → numbers_of inst_numbers (is ++ js) ≡ numbers_of inst_numbers is ++ numbers_of inst_numbers js
+insts_append = numbers_append inst (λ i. i.typ) (λ i. i.val) (λ i. i.start) (λ i. i.len) (λ _. refl)
 
 pub labels_append : (ls ks : List Label) → numbers_of label_numbers (ls ++ ks) ≡ numbers_of label_numbers ls ++ numbers_of label_numbers ks
-labels_append = numbers-append label (λ l. l.start) (λ l. l.len) (λ l. l.target) (λ l. l.next) (λ _. refl)
+labels_append = numbers_append label (λ l. l.start) (λ l. l.len) (λ l. l.target) (λ l. l.next) (λ _. refl)

@@ -28,11 +28,11 @@ not_true true f = absurd (f refl)
 not_true false f = refl
 
 -- one step more before the first of two runs
-continued-after : (rest : ℕ → Machine → Course) (limit : ℕ) (cells : List ℕ) (r : Course) (b : Bool)
+continued_after : (rest : ℕ → Machine → Course) (limit : ℕ) (cells : List ℕ) (r : Course) (b : Bool)
     → continued rest (suc limit) (after cells r) b ≡ after cells (continued rest limit r b)
 unfolding continued
-continued-after rest limit cells r true = rw (suc-sub-suc, suc-add, append_assoc)
-continued-after rest limit cells r false = refl
+continued_after rest limit cells r true = rw (suc-sub-suc, suc-add, append_assoc)
+continued_after rest limit cells r false = refl
 
 -- the tests before a step
 abbrev tests : Bool → Bool → Bool → Bool → Before
@@ -67,7 +67,7 @@ module _ (p : Program) (extra : ℕ) where
         fits = rw length-append (omega (arith, f.fits));
         fewer = rw length-append (omega (arith, f.fewer));
         full = λ t. (length-append cells r.cells ∙ omega (arith, (f.full t).0), omega (arith, (f.full t).1));
-        whole = ap (after cells) f.whole ∙ sym (continued-after (λ l. course p l extra) limit cells r (is_full r.ending));
+        whole = ap (after cells) f.whole ∙ sym (continued_after (λ l. course p l extra) limit cells r (is_full r.ending));
       }
 
   -- 33 before the first step
@@ -130,10 +130,10 @@ module _ (p : Program) where
       rw (← e) (f.whole ∙ rw n)
 
   -- one run with room for every cell is a run with less, continued after 33
-  pub one-run : (room limit : ℕ) (m : Machine) → 0 < room
+  pub one_run : (room limit : ℕ) (m : Machine) → 0 < room
       → course p limit limit m ≡ continued (λ l. course p l l) limit (course p limit room m) (is_full (course p limit room m).ending)
   unfolding continued
-  one-run room limit m h = by_full _ refl
+  one_run room limit m h = by_full _ refl
     where
       r : Course
       r = course p limit room m
@@ -153,7 +153,7 @@ module _ (p : Program) where
   unseen : (fuel room limit : ℕ) (m : Machine) → 0 < room → limit ≤ fuel → in_all fuel p room limit m ≡ course p limit limit m
   unfolding in_all continued
   unseen zero room limit m h l = enough limit room m (omega arith)
-  unseen (suc fuel) room limit m h l = same_rest (λ l' m'. unseen fuel room l' m' h) _ refl ∙ sym (one-run room limit m h)
+  unseen (suc fuel) room limit m h l = same_rest (λ l' m'. unseen fuel room l' m' h) _ refl ∙ sym (one_run room limit m h)
     where
       r : Course
       r = course p limit room m

@@ -8,7 +8,7 @@ use Rattle.machine.specs.declared.Machine.{Machine}
 use Rattle.machine.specs.Load.{Load, rejects, accepts, insts_after, labels_after, fresh, count_of}
 use Rattle.machine.specs.Statements.{loaded_program}
 use Rattle.tables.specs.Tables.{insts_of, labels_of, program}
-use Rattle.tables.proofs.Laws.{insts-sets, labels-sets}
+use Rattle.tables.proofs.Laws.{insts_sets, labels_sets}
 use Rattle.loader.specs.declared.Loading.{Loading}
 use Rattle.loader.specs.declared.Loading.TheVariants.{Refused, Accepted}
 use Rattle.loader.specs.Loading.{refuses, starts, reply_of, fresh_at, means, insts_left, labels_left, load_of, FromBinary}
@@ -28,7 +28,7 @@ module _ (image insts labels : List ℕ) where
   accepted_prints : (insts' labels' : List ℕ) (ip count : ℕ) → FromBinary image insts labels (Accepted ip count) insts' labels'
       → printed_with image insts labels ≡ report (in_all steps_in_all (program image insts' labels' count) dump_room steps_in_all (fresh_at ip))
   unfolding means reply_of printed_of insts_left labels_left loaded_program insts_after labels_after
-  accepted_prints insts' labels' ip count f = by_load (load_of image insts labels) f.answers f.insts-are f.labels-are
+  accepted_prints insts' labels' ip count f = by_load (load_of image insts labels) f.answers f.insts_are f.labels_are
     where
       by_load : (l : Load) → starts (fresh_at ip) count ≡ reply_of l → insts' ≡ insts_left l insts → labels' ≡ labels_left l labels
           → printed_of image (insts_of insts) (labels_of labels) l ≡ report (in_all steps_in_all (program image insts' labels' count) dump_room steps_in_all (fresh_at ip))
@@ -36,8 +36,8 @@ module _ (image insts labels : List ℕ) where
       by_load (accepts l) e i j =
           let m : fresh_at ip ≡ fresh l = cc in
           let c : count ≡ count_of l = cc in
-          let x : insts_of insts' ≡ sets (insts_of insts) 0 l.insts = ap insts_of i ∙ insts-sets l.insts insts in
-          let y : labels_of labels' ≡ sets (labels_of labels) 0 l.labels = ap labels_of j ∙ labels-sets l.labels labels in
+          let x : insts_of insts' ≡ sets (insts_of insts) 0 l.insts = ap insts_of i ∙ insts_sets l.insts insts in
+          let y : labels_of labels' ≡ sets (labels_of labels) 0 l.labels = ap labels_of j ∙ labels_sets l.labels labels in
           rw (m, c, x, y)
 
   -- by the call's answer

@@ -21,7 +21,7 @@ use Rattle.run.specs.Runs.{run_bytes}
 use Rattle.report.specs.Text.{cell_lines, end_line, Put}
 use Rattle.report.proofs.Laws.{put_both, lines_append, length_lines, end_line_short}
 use Rattle.transcript.specs.Transcript.{is_full, joined, continued, in_all, report, steps_in_all, dump_room, text_size}
-use Rattle.transcript.proofs.Joined.{by_bool, Front, fronts, one-run, buffer_unseen}
+use Rattle.transcript.proofs.Joined.{by_bool, Front, fronts, one_run, buffer_unseen}
 
 -- a buffer of 64 cells, and that a run keeps its length
 pub sixty_four : (b : List ℕ) → length b ≡ 512 → length (numbers_in b) ≡ dump_room
@@ -32,11 +32,11 @@ unfolding run_bytes
 same_bytes p limit b m x e = ap (λ (y : Result). length y.buffer) e ∙ length-sets b 0 (bytes_of (course p limit (length b / 8) m).cells)
 
 -- three runs joined
-continued-joined : (rest : ℕ → Machine → Course) (limit : ℕ) (r s : Course) (b : Bool)
+continued_joined : (rest : ℕ → Machine → Course) (limit : ℕ) (r s : Course) (b : Bool)
     → joined r (continued rest (limit - r.steps) s b) ≡ continued rest limit (joined r s) b
 unfolding continued
-continued-joined rest limit r s true = simp (sub-add-eq, add_assoc, append_assoc)
-continued-joined rest limit r s false = refl
+continued_joined rest limit r s true = simp (sub-add-eq, add_assoc, append_assoc)
+continued_joined rest limit r s false = refl
 
 -- the run so far, as one: m is its machine, e its ending, `at` the offset behind its lines. It leads to the one run with room for every cell
 pub record Printing (p : Program) (m₀ : Machine) (t₀ t : List ℕ) (m : Machine) (e : Ending) (steps at : ℕ) : Type 0 where
@@ -58,7 +58,7 @@ weight e steps = cond (is_full e) (suc (steps_in_all - steps)) 0
 -- What a run more comes to, of what was lent and is answered: x is the answer
 pub record Turned (p : Program) (m₀ : Machine) (t₀ t : List ℕ) (e : Ending) (steps at : ℕ) (x : Result) : Type 0 where
   pub fits : x.dumped ≤ length x.buffer
-  pub same-room : length x.buffer ≡ dump_room
+  pub same_room : length x.buffer ≡ dump_room
   pub fewer : x.steps ≤ steps_in_all - steps
   pub room : length t ≡ text_size → at + length (cell_lines (take x.dumped x.buffer)) ≤ length t
   pub goes : {t' : List ℕ} {at' : ℕ} → Put t at (cell_lines (take x.dumped x.buffer)) t' at' → Printing p m₀ t₀ t' x.machine x.ending (steps + x.steps) at'
@@ -86,8 +86,8 @@ module _ {p : Program} {m₀ : Machine} {t₀ t : List ℕ} {m : Machine} {e : E
           lines = rw lines_append both;
           fewer = rw length-append (omega (arith, s.fewer, counts.fewer));
           within = omega (arith, s.within, counts.within);
-          leads = sym (continued-joined (λ l. course p l l) steps_in_all r₀ r (is_full r.ending))
-              ∙ ap (joined r₀) (sym (one-run p dump_room (steps_in_all - steps) m (lit< tt)))
+          leads = sym (continued_joined (λ l. course p l l) steps_in_all r₀ r (is_full r.ending))
+              ∙ ap (joined r₀) (sym (one_run p dump_room (steps_in_all - steps) m (lit< tt)))
               ∙ (rw f at s.leads);
         }
 
@@ -96,7 +96,7 @@ module _ {p : Program} {m₀ : Machine} {t₀ t : List ℕ} {m : Machine} {e : E
     ran =
         record {
           fits = rw length-sets (rw sixty_four counts.fits);
-          same-room = length-sets buffer 0 r.cells ∙ sixty_four;
+          same_room = length-sets buffer 0 r.cells ∙ sixty_four;
           fewer = counts.within;
           room = λ long.
               rw cells_are (omega (arith, length_lines r.cells, length_lines s.cells, s.lines.next_is, s.fewer, s.within, counts.within, counts.fewer));

@@ -9,9 +9,9 @@ use lib.ListN.{length, get_or, set}
 use lib.Seq.{slice, slice-cons, slice_empty, sets}
 use Rattle.word.specs.Words.{little_endian, number_of, word, eight_of}
 
-slice-eight : (s : List ℕ) (at : ℕ) → at + 8 ≤ length s
+slice_eight : (s : List ℕ) (at : ℕ) → at + 8 ≤ length s
     → slice at (at + 8) s ≡ get_or s at 0 ∷ get_or s (at + 1) 0 ∷ get_or s (at + 2) 0 ∷ get_or s (at + 3) 0 ∷ get_or s (at + 4) 0 ∷ get_or s (at + 5) 0 ∷ get_or s (at + 6) 0 ∷ get_or s (at + 7) 0 ∷ []
-slice-eight s at h =
+slice_eight s at h =
     let next : (k : ℕ) → k < 8 → slice (at + k) (at + 8) s ≡ get_or s (at + k) 0 ∷ slice (at + (k + 1)) (at + 8) s =
     λ k l. (let n : suc (at + k) ≡ at + (k + 1) = omega arith in rw (← n) (slice-cons (at + k) (at + 8) s 0 (omega arith) h)) in
     let first : slice at (at + 8) s ≡ get_or s at 0 ∷ slice (at + 1) (at + 8) s = rw add-zero at (next 0 (omega arith)) in
@@ -21,7 +21,7 @@ slice-eight s at h =
 -- the eight bytes from a place on
 pub eight_from : (s : List ℕ) (at : ℕ) → at + 8 ≤ length s
     → number_of (get_or s at 0) (get_or s (at + 1) 0) (get_or s (at + 2) 0) (get_or s (at + 3) 0) (get_or s (at + 4) 0) (get_or s (at + 5) 0) (get_or s (at + 6) 0) (get_or s (at + 7) 0) ≡ word s at
-eight_from s at h = ap little_endian (sym (slice-eight s at h))
+eight_from s at h = ap little_endian (sym (slice_eight s at h))
 
 -- a number's bytes are its own: each byte with what stands above it
 byte_0 : (v : ℕ) → v % 256 + v / 0x100 * 256 ≡ v

@@ -10,7 +10,7 @@ use Rattle.tables.proofs.Numbers.{length_records}
 use Rattle.run.specs.Runs.{answer}
 use Rattle.run.proofs.Cells.{cells, in_cells}
 use Rattle.digests.specs.Digests.{word, digest_after}
-use Rattle.digests.proofs.Laws.{agreeing-next, agreeing_differs, agreeing_end}
+use Rattle.digests.proofs.Laws.{agreeing_next, agreeing_differs, agreeing_end}
 use Rattle.digests.proofs.agreeing_steps.Goals as goal
 
 pub loop-i-init : goal.loop-i-init
@@ -31,7 +31,7 @@ unfolding digest_after numbers_in little_endian
 loop-i-preserved c =
     let l = c.loop-i in
     let below : l.i < length (records_of word c.args.recorded.now) = let e = length_records word c.args.recorded.now in omega (arith, c.loop-i-test.true) in
-    agreeing-next _ _ _ _ _ l.invariant (cells (answer c.execute_program-ran.result c.execute_program-ran.new.dumps)) _ _ below (in_cells _ _ _ _ _ c.execute_program-ran.ensures) (rw c.number_at.ensures at c.digest_after.ensures) c.digest_at.ensures c.if-digest_after-digest_at.false
+    agreeing_next _ _ _ _ _ l.invariant (cells (answer c.execute_program-ran.result c.execute_program-ran.new.dumps)) _ _ below (in_cells _ _ _ _ _ c.execute_program-ran.ensures) (rw c.number_at.ensures at c.digest_after.ensures) c.digest_at.ensures c.if-digest_after-digest_at.false
 
 pub returns : goal.returns
 returns c =

@@ -17,7 +17,7 @@ pub write-requires : goal.write-requires
 unfolding means
 write-requires c =
     let h = rw c.in-Bytes.is at c.check-answer.ensures in
-    let a = accepted _ _ _ _ _ h in record { forms_value = c.form_table-forms.ensures; count_in_bounds = a.within; insts_value = a.well; insts_in_bounds = a.fits }
+    let a = accepted _ _ _ _ _ h in record { forms_value = c.form_table-forms.ensures; count_in_bounds = a.within; insts_value = a.well; room = a.fits }
 
 pub returns : goal.returns
 unfolding means encode output_after

@@ -10,4 +10,4 @@ pub returns : goal.returns
 returns c =
     let n = c.args.n in
     let r = c.pattern.ensures ∙ ap (to_bits binary64) c.nearest_u64_to_f64.ensures ∙ rounds n in
-    record { rounds = r; exact = λ h. ap value r ∙ theorems.whole-exact n h }
+    record { rounds = r; exact = λ h. ap value r ∙ theorems.whole_exact n h }

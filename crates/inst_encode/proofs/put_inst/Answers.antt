@@ -8,7 +8,7 @@ use Rattle.inst.specs.Forms.{eight, one, name}
 use Rattle.inst_encode.specs.Encode.{bytes_of, operand_bytes, as_bytes}
 use Rattle.inst.proofs.Laws.{is_form}
 use Rattle.inst_encode.proofs.Laws.{head_size, record_size, bytes_are, no_operand, stored_first}
-use Rattle.inst.proofs.Facts.{typ_byte, name-inside}
+use Rattle.inst.proofs.Facts.{typ_byte, name_inside}
 use Rattle.inst_encode.proofs.Facts.{size_is}
 use Rattle.inst_encode.proofs.put_inst.Goals as goal
 
@@ -37,7 +37,7 @@ pub put_named-requires : goal.put_named-requires
 unfolding record_size head_size
 put_named-requires c =
     let e = is_form _ _ 110 c.form.ensures c.in-110.is in
-    let n = simp e at (size_is c.args.image.now c.args.inst c.requires.inst_value) in record { len_in_bounds = name-inside c.args.image.now c.args.inst c.requires.inst_value e; len_in_bounds_2 = simp length-set (omega arith) }
+    let n = simp e at (size_is c.args.image.now c.args.inst c.requires.inst_value) in record { name_inside = name_inside c.args.image.now c.args.inst c.requires.inst_value e; room = simp length-set (omega arith) }
 
 pub overflow_add-result : goal.overflow_add-result
 unfolding record_size head_size

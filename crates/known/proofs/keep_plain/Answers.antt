@@ -8,13 +8,13 @@ use Rattle.known.proofs.Keeping.{plain_is}
 use Rattle.known.proofs.keep_plain.Goals as goal
 
 pub returns-then-looks_up : goal.returns-then-looks_up
-returns-then-looks_up c = record { keys-are = rw (plain_is c.args.image.now c.args.insts.now c.args.at true (rw (← c.number_at-op.ensures) (sym c.looks_up.ensures ∙ c.if-looks_up.true))) refl }
+returns-then-looks_up c = record { keys_are = rw (plain_is c.args.image.now c.args.insts.now c.args.at true (rw (← c.number_at-op.ensures) (sym c.looks_up.ensures ∙ c.if-looks_up.true))) refl }
 
 pub keep-requires : goal.keep-requires
 keep-requires c = omega (arith, c.number_at-op.ensures, typ_byte _ (inst_of c.args.insts.now c.args.at) (sym c.is_well_formed_at.ensures ∙ c.if-is_well_formed_at.true))
 
 pub returns-then-is_well_formed_at : goal.returns-then-is_well_formed_at
-returns-then-is_well_formed_at c = record { keys-are = rw (plain_is c.args.image.now c.args.insts.now c.args.at false (rw (← c.number_at-op.ensures) (sym c.looks_up.ensures ∙ c.if-looks_up.false)), sym c.is_well_formed_at.ensures ∙ c.if-is_well_formed_at.true, ← c.number_at-op.ensures) c.keep.ensures.keys-are }
+returns-then-is_well_formed_at c = record { keys_are = rw (plain_is c.args.image.now c.args.insts.now c.args.at false (rw (← c.number_at-op.ensures) (sym c.looks_up.ensures ∙ c.if-looks_up.false)), sym c.is_well_formed_at.ensures ∙ c.if-is_well_formed_at.true, ← c.number_at-op.ensures) c.keep.ensures.keys_are }
 
 pub returns-else-is_well_formed_at : goal.returns-else-is_well_formed_at
-returns-else-is_well_formed_at c = record { keys-are = rw (plain_is c.args.image.now c.args.insts.now c.args.at false (rw (← c.number_at-op.ensures) (sym c.looks_up.ensures ∙ c.if-looks_up.false)), sym c.is_well_formed_at.ensures ∙ c.if-is_well_formed_at.false) refl }
+returns-else-is_well_formed_at c = record { keys_are = rw (plain_is c.args.image.now c.args.insts.now c.args.at false (rw (← c.number_at-op.ensures) (sym c.looks_up.ensures ∙ c.if-looks_up.false)), sym c.is_well_formed_at.ensures ∙ c.if-is_well_formed_at.false) refl }

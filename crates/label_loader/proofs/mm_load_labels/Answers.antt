@@ -3,7 +3,7 @@ use Rattle.std.proofs.Common.{◌<◌, length, refl, arith}
 use Rattle.std.proofs.Math.ListN.{length-set}
 use Rattle.machine.specs.declared.Label.{Label}
 use Rattle.hand_proofs.proofs.Slices.{scaled}
-use Rattle.loader.proofs.Passing.{left-falls}
+use Rattle.loader.proofs.Passing.{left_falls}
 use Rattle.label_loader.proofs.Turns.{underway_begins, inside, fit, underway_on, over}
 use Rattle.label_loader.proofs.mm_load_labels.Goals as goal
 
@@ -38,7 +38,7 @@ next_link-l-requires c =
     fit _ _ _ _ _ f _ _ (c.loop-l.invariant _ f) c.loop-l-test.true
 
 pub loop-l-smaller : goal.loop-l-smaller
-loop-l-smaller c = left-falls _ _ _ c.loop-l-test.true c.next_link-l.ensures
+loop-l-smaller c = left_falls _ _ _ c.loop-l-test.true c.next_link-l.ensures
 
 pub loop-l-preserved : goal.loop-l-preserved
 loop-l-preserved c insts₀ f = underway_on _ _ _ _ _ f _ _ (c.loop-l.invariant _ f) c.loop-l-test.true _ c.next_link-l.ensures

@@ -9,4 +9,4 @@ use Rattle.machine.proofs.PlainNaN.{types_of_nans, plain_nans, nan_result_conver
 use Rattle.machine.proofs.machine_theorems.Goals as goal
 
 pub returns : goal.returns
-returns c = record { one-history = runs_are_one_history; runs = runs_are_histories; only_one = only_one; traps_leave = traps_leave; steps_touch = steps_touch; names_lead_to_last = names_lead_to_last; reads_to_end = reads_to_end; walks_to_end = walks_to_end; marks_hold = marks_hold; types_of_nans = types_of_nans; plain_nans = plain_nans; nan_result_converts = nan_result_converts; zero_by_zero_converts = zero_by_zero_converts }
+returns c = record { one_history = runs_are_one_history; runs = runs_are_histories; only_one = only_one; traps_leave = traps_leave; steps_touch = steps_touch; names_lead_to_last = names_lead_to_last; reads_to_end = reads_to_end; walks_to_end = walks_to_end; marks_hold = marks_hold; types_of_nans = types_of_nans; plain_nans = plain_nans; nan_result_converts = nan_result_converts; zero_by_zero_converts = zero_by_zero_converts }

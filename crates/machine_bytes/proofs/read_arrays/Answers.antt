@@ -4,11 +4,11 @@ use native.Mathlib.Omega.{arith}
 use Rattle.inst.proofs.Laws.{slice_of}
 use Rattle.tables.specs.Tables.{numbers_in}
 use Rattle.machine_bytes.specs.Layout.{machine_of, calls_at, memory_at, height_at}
-use Rattle.machine_bytes.proofs.Fields.{part-long}
+use Rattle.machine_bytes.proofs.Fields.{part_long}
 use Rattle.machine_bytes.proofs.read_arrays.Goals as goal
 
 pub copy_from_slice-requires : goal.copy_from_slice-requires
-copy_from_slice-requires c = omega (arith, part-long c.args.machine.now c.requires)
+copy_from_slice-requires c = omega (arith, part_long c.args.machine.now c.requires)
 
 pub returns : goal.returns
 unfolding machine_of

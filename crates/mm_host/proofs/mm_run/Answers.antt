@@ -2,7 +2,7 @@
 use mathlib.Core.Path.{sym, ◌∙◌}
 use Rattle.mm_host.specs.Calls.{run_call}
 use Rattle.run.proofs.Edges.{within}
-use Rattle.mm_host.proofs.Answers.{machine-long, read_is, run_called}
+use Rattle.mm_host.proofs.Answers.{machine_long, read_is, run_called}
 use Rattle.mm_host.proofs.mm_run.Goals as goal
 
 pub returns-then-not-is_machine : goal.returns-then-not-is_machine
@@ -10,19 +10,19 @@ unfolding run_call
 returns-then-not-is_machine c = rw (sym c.is_machine.ensures ∙ c.if-not-is_machine.true)
 
 pub read_arrays-requires : goal.read_arrays-requires
-read_arrays-requires c = machine-long _ (sym c.is_machine.ensures ∙ c.if-not-is_machine.false)
+read_arrays-requires c = machine_long _ (sym c.is_machine.ensures ∙ c.if-not-is_machine.false)
 
 pub registers_of-requires : goal.registers_of-requires
-registers_of-requires c = machine-long _ (sym c.is_machine.ensures ∙ c.if-not-is_machine.false)
+registers_of-requires c = machine_long _ (sym c.is_machine.ensures ∙ c.if-not-is_machine.false)
 
 pub flags_of-requires : goal.flags_of-requires
-flags_of-requires c = machine-long _ (sym c.is_machine.ensures ∙ c.if-not-is_machine.false)
+flags_of-requires c = machine_long _ (sym c.is_machine.ensures ∙ c.if-not-is_machine.false)
 
 pub is_halted-requires : goal.is_halted-requires
-is_halted-requires c = machine-long _ (sym c.is_machine.ensures ∙ c.if-not-is_machine.false)
+is_halted-requires c = machine_long _ (sym c.is_machine.ensures ∙ c.if-not-is_machine.false)
 
 pub write_parts-requires : goal.write_parts-requires
-write_parts-requires c = machine-long _ (sym c.is_machine.ensures ∙ c.if-not-is_machine.false)
+write_parts-requires c = machine_long _ (sym c.is_machine.ensures ∙ c.if-not-is_machine.false)
 
 pub ran-requires : goal.ran-requires
 ran-requires c = within c.execute_parts-p.ensures

@@ -15,9 +15,9 @@ use Rattle.report.proofs.put_cell_lines.Goals as goal
 front_long : (cells : List ℕ) (n : ℕ) → n * 8 ≤ length cells → length (take n (numbers_in cells)) ≡ n
 front_long cells n h = let l = length_numbers_in cells in length-take-le n (numbers_in cells) (omega arith)
 
-cells-next : (cells : List ℕ) (n i : ℕ) → n * 8 ≤ length cells → i < n → (x : ℕ) → x ≡ number_at cells i
+cells_next : (cells : List ℕ) (n i : ℕ) → n * 8 ≤ length cells → i < n → (x : ℕ) → x ≡ number_at cells i
     → cell_lines (drop i (take n (numbers_in cells))) ≡ cell_line x ++ cell_lines (drop (i + 1) (take n (numbers_in cells)))
-cells-next cells n i h l x e =
+cells_next cells n i h l x e =
     let k : i < length (take n (numbers_in cells)) = rw (front_long cells n h) l in
     rw (e, ← (get_or-take n (numbers_in cells) i 0 l)) (lines_next (take n (numbers_in cells)) i k)
 
@@ -29,12 +29,12 @@ number_at-requires c = omega (arith, c.loop-i-test.true, c.requires.n_in_bounds)
 
 pub put_cell_line-next-requires : goal.put_cell_line-next-requires
 put_cell_line-next-requires c =
-    let e = simp length-append at (ap length (cells-next c.args.cells.now c.args.n c.loop-i.i c.requires.n_in_bounds c.loop-i-test.true c.number_at.result c.number_at.ensures)) in
+    let e = simp length-append at (ap length (cells_next c.args.cells.now c.args.n c.loop-i.i c.requires.n_in_bounds c.loop-i-test.true c.number_at.result c.number_at.ensures)) in
     omega (arith, c.loop-i.invariant.3, c.loop-i.invariant.1, c.requires.cells_in_bounds)
 
 pub loop-i-preserved : goal.loop-i-preserved
 loop-i-preserved c =
-    let next_is = cells-next c.args.cells.now c.args.n c.loop-i.i c.requires.n_in_bounds c.loop-i-test.true c.number_at.result c.number_at.ensures in
+    let next_is = cells_next c.args.cells.now c.args.n c.loop-i.i c.requires.n_in_bounds c.loop-i-test.true c.number_at.result c.number_at.ensures in
     let e = simp length-append at (ap length next_is) in
     let p = c.put_cell_line-next.ensures in
     let i = c.loop-i.invariant in

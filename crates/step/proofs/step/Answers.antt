@@ -10,8 +10,8 @@ use Rattle.machine.specs.Lookup.{no_label, lookup}
 use Rattle.known.specs.Known.{KnownAt}
 use Rattle.tables.specs.Tables.{number_at, insts_of, inst_of}
 use Rattle.lookup.specs.Walks.{lent_program}
-use Rattle.known.proofs.Keeping.{plain-formed, plain_no_lookup, learns_sized, learns, keeps_jump_sized, keeps-jump}
-use Rattle.step.proofs.Whole.{at_target, name-lies, known_at, step_past, step_unformed, made_found, made_acts}
+use Rattle.known.proofs.Keeping.{plain_formed, plain_no_lookup, learns_sized, learns, keeps_jump_sized, keeps_jump}
+use Rattle.step.proofs.Whole.{at_target, name_lies, known_at, step_past, step_unformed, made_found, made_acts}
 use borrow.Author.Rules.{rules}
 use Rattle.step.proofs.step.Goals as goal
 
@@ -24,7 +24,7 @@ returns-then-not-is_well_formed_at c = record { small = tt; sized = c.requires.i
 pub returns-then-not-is_asked : goal.returns-then-not-is_asked
 returns-then-not-is_asked c =
     let formed = sym c.is_well_formed_at.ensures ∙ c.if-not-is_well_formed_at.false in
-    record { small = tt; sized = c.requires.inside.2; listed = c.requires.inside.3; tried = λ labels told. (sym c.is_asked.ensures ∙ c.if-not-is_asked.true, rw (c.number_at.ensures, c.number_at-then-not-is_asked.ensures) (name-lies _ c.args.insts.now c.args.regs.ip formed (rw (← c.number_at-op.ensures) (sym c.looks_up.ensures ∙ c.if-looks_up.true))), (sym c.number_at.ensures, sym c.number_at-then-not-is_asked.ensures), refl) }
+    record { small = tt; sized = c.requires.inside.2; listed = c.requires.inside.3; tried = λ labels told. (sym c.is_asked.ensures ∙ c.if-not-is_asked.true, rw (c.number_at.ensures, c.number_at-then-not-is_asked.ensures) (name_lies _ c.args.insts.now c.args.regs.ip formed (rw (← c.number_at-op.ensures) (sym c.looks_up.ensures ∙ c.if-looks_up.true))), (sym c.number_at.ensures, sym c.number_at-then-not-is_asked.ensures), refl) }
 
 pub execute_jump-answer-requires : goal.execute_jump-answer-requires
 execute_jump-answer-requires c = ((c.requires.inside.0.0, c.requires.inside.0.1, search rules), sym c.looks_up.ensures ∙ c.if-looks_up.true)
@@ -33,7 +33,7 @@ pub keep_jump-requires : goal.keep_jump-requires
 keep_jump-requires c = omega (arith, c.number_at-op.ensures, typ_byte _ (inst_of c.args.insts.now c.args.regs.ip) (sym c.is_well_formed_at.ensures ∙ c.if-not-is_well_formed_at.false))
 
 pub learn-requires : goal.learn-requires
-learn-requires c = record { forms_value = c.requires.forms_value; count_in_bounds = (c.requires.inside.1, c.requires.inside.2.keys-long) }
+learn-requires c = record { forms_value = c.requires.forms_value; count_in_bounds = (c.requires.inside.1, c.requires.inside.2.keys_long) }
 
 pub execute_instruction-requires : goal.execute_instruction-requires
 execute_instruction-requires c = ((c.requires.inside.0.0, c.requires.inside.0.1, search rules), sym c.looks_up.ensures ∙ c.if-looks_up.false)
@@ -48,10 +48,10 @@ returns-else-not-is_asked c =
     record {
       small = (c.execute_jump-answer.ensures 0 0 0 [] []).small;
       sized = keeps_jump_sized c.requires.inside.2 _ kept;
-      listed = keeps-jump c.requires.inside.2 _ kept (λ (key t i : ℕ). i * 32 + 31 < length xs) c.requires.inside.3 (at_target c.args.found (λ (t : ℕ). ip * 32 + 31 < length xs) (λ t h. omega (arith, below, c.requires.inside.1)));
+      listed = keeps_jump c.requires.inside.2 _ kept (λ (key t i : ℕ). i * 32 + 31 < length xs) c.requires.inside.3 (at_target c.args.found (λ (t : ℕ). ip * 32 + 31 < length xs) (λ t h. omega (arith, below, c.requires.inside.1)));
       tried = λ labels told. let finds = told (sym c.is_asked.ensures ∙ c.if-not-is_asked.false) in (
         made_found _ xs labels c.args.count c.requires.inside.1 _ _ _ _ _ c.requires.inside.0 below formed _ _ _ _ _ finds (rw c.number_at-op.ensures at (c.execute_jump-answer.ensures (number_at xs (ip * 4 + 1)) (number_at xs (ip * 4 + 2)) (number_at xs (ip * 4 + 3)) c.args.stack.now c.args.memory.now)),
-        λ k. keeps-jump c.requires.inside.2 _ kept (KnownAt (lent_program c.args.image.now (insts_of xs) labels c.args.count) xs) k (at_target c.args.found (λ (t : ℕ). KnownAt (lent_program c.args.image.now (insts_of xs) labels c.args.count) xs (number_at xs (ip * 4)) t ip) (λ t h. known_at _ xs labels _ c.requires.inside.1 ip below formed t (λ l. sym finds ∙ h))),
+        λ k. keeps_jump c.requires.inside.2 _ kept (KnownAt (lent_program c.args.image.now (insts_of xs) labels c.args.count) xs) k (at_target c.args.found (λ (t : ℕ). KnownAt (lent_program c.args.image.now (insts_of xs) labels c.args.count) xs (number_at xs (ip * 4)) t ip) (λ t h. known_at _ xs labels _ c.requires.inside.1 ip below formed t (λ l. sym finds ∙ h))),
       );
     }
 
@@ -70,6 +70,6 @@ returns-else-looks_up c =
       listed = learns targets learnt (λ (key t i : ℕ). i * 32 + 31 < length xs) c.requires.inside.3 (λ i t h. omega (arith, h.below, c.requires.inside.1));
       tried = λ labels told. (
         made_acts _ xs labels c.args.count c.requires.inside.1 _ _ _ _ _ c.requires.inside.0 below formed _ _ _ _ (rw (c.number_at-op.ensures, c.number_at-else-looks_up.ensures) at (c.execute_instruction.ensures (lookup (lent_program image (insts_of xs) labels c.args.count) (inst_of xs ip)) (number_at xs (ip * 4 + 2)) (number_at xs (ip * 4 + 3)))),
-        λ k. learns targets learnt (KnownAt (lent_program image (insts_of xs) labels c.args.count) xs) k (λ i t h. known_at image xs labels _ c.requires.inside.1 i h.below (plain-formed image xs i h.plain) t (λ l. never (sym (plain_no_lookup image xs i h.plain) ∙ l))),
+        λ k. learns targets learnt (KnownAt (lent_program image (insts_of xs) labels c.args.count) xs) k (λ i t h. known_at image xs labels _ c.requires.inside.1 i h.below (plain_formed image xs i h.plain) t (λ l. never (sym (plain_no_lookup image xs i h.plain) ∙ l))),
       );
     }

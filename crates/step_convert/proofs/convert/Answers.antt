@@ -2,7 +2,7 @@
 use mathlib.Core.Path.{sym}
 use Rattle.machine.specs.Change.{moved, with_stack}
 use Rattle.step_core.proofs.Answers.{success, trapped}
-use Rattle.step_convert.proofs.Laws.{convert_short, convert-traps, convert_does}
+use Rattle.step_convert.proofs.Laws.{convert_short, convert_traps, convert_does}
 use borrow.Author.Tests.{lt-ltb, le-ltb}
 use borrow.Author.Rules.{rules}
 use Rattle.step_convert.proofs.convert.Goals as goal
@@ -13,7 +13,7 @@ returns-then-t-eq-NO_TRAP c ca me = success c.onward.ensures (λ f. simp c.conve
 
 pub returns-else-t-eq-NO_TRAP : goal.returns-else-t-eq-NO_TRAP
 unfolding moved with_stack
-returns-else-t-eq-NO_TRAP c ca me = trapped c.trap.ensures (λ f. sym (convert-traps _ _ (lt-ltb _ _ c.if-height-gt0.true) _ c.conversion_trap-t.ensures c.if-t-eq-NO_TRAP.false))
+returns-else-t-eq-NO_TRAP c ca me = trapped c.trap.ensures (λ f. sym (convert_traps _ _ (lt-ltb _ _ c.if-height-gt0.true) _ c.conversion_trap-t.ensures c.if-t-eq-NO_TRAP.false))
 
 pub returns-else-height-gt0 : goal.returns-else-height-gt0
 unfolding moved with_stack

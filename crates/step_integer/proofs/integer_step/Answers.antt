@@ -2,7 +2,7 @@
 use mathlib.Core.Path.{sym, ◌∙◌}
 use Rattle.machine.specs.Change.{moved, with_stack}
 use Rattle.step_core.proofs.Answers.{success, trapped}
-use Rattle.step_integer.proofs.Laws.{integer_short, integer-types, integer_zero, integer_does}
+use Rattle.step_integer.proofs.Laws.{integer_short, integer_types, integer_zero, integer_does}
 use borrow.Author.Tests.{le-leb, lt-leb, not-true, not-false}
 use borrow.Author.Rules.{rules}
 use Rattle.step_integer.proofs.integer_step.Goals as goal
@@ -20,7 +20,7 @@ returns-else-is_zero_division c ca me = success c.onward.ensures (λ f. simp c.o
 
 pub returns-else-both_i64 : goal.returns-else-both_i64
 unfolding moved with_stack
-returns-else-both_i64 c ca me = trapped c.trap-else-both_i64.ensures (λ f. simp c.type_trap.ensures (sym (integer-types _ _ (le-leb _ _ c.if-height-ge2.true) (sym c.both_i64.ensures ∙ c.if-both_i64.false))))
+returns-else-both_i64 c ca me = trapped c.trap-else-both_i64.ensures (λ f. simp c.type_trap.ensures (sym (integer_types _ _ (le-leb _ _ c.if-height-ge2.true) (sym c.both_i64.ensures ∙ c.if-both_i64.false))))
 
 pub returns-else-height-ge2 : goal.returns-else-height-ge2
 unfolding moved with_stack

@@ -3,11 +3,11 @@ use native.Mathlib.Omega.{arith}
 use mathlib.Core.Path.{refl, ◌∙◌, sym}
 use borrow.Author.Rules.{rules}
 use borrow.Author.Tests.{eq-eqb, ne_eqb}
-use Rattle.inst.proofs.Names.{same_next, same_end, same-long}
+use Rattle.inst.proofs.Names.{same_next, same_end, same_long}
 use Rattle.inst.proofs.records.same_name.Goals as goal
 
 pub returns-then-a-b : goal.returns-then-a-b
-returns-then-a-b c = sym (same-long _ _ c.if-a-b.true)
+returns-then-a-b c = sym (same_long _ _ c.if-a-b.true)
 
 pub loop-i-init : goal.loop-i-init
 loop-i-init c = (search rules, c.if-a-b.false, refl)

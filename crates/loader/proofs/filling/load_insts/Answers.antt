@@ -4,7 +4,7 @@ use native.Mathlib.Omega.{arith}
 use Rattle.tables.specs.Tables.{inst, insts_of}
 use Rattle.tables.proofs.Laws.{length_records}
 use Rattle.machine.proofs.Loads.{enough}
-use Rattle.loader.proofs.Loads.{few_insts, few_labels, refused_with, refused_there, accepted-load}
+use Rattle.loader.proofs.Loads.{few_insts, few_labels, refused_with, refused_there, accepted_load}
 use Rattle.loader.proofs.filling.load_insts.Goals as goal
 
 pub returns-then-insts-lt-INST_LIMIT : goal.returns-then-insts-lt-INST_LIMIT
@@ -18,8 +18,8 @@ returns-in_default c ls e =
     rw (enough c.args.image.now (insts_of c.args.insts.now) ls (rw (length_records inst) c.if-insts-lt-INST_LIMIT.false) (rw e c.if-labels-lt-LABEL_RECORDS.false)) (refused_there _ _ _ _ c.check-checked.ensures (sym c.in_default.is))
 
 pub fill-requires : goal.fill-requires
-fill-requires c = record { accepts = accepted-load _ _ _ _ c.check-checked.ensures (sym c.in-Accepted.is); inst_limit_in_bounds = omega (arith, c.if-insts-lt-INST_LIMIT.false) }
+fill-requires c = record { accepts = accepted_load _ _ _ _ c.check-checked.ensures (sym c.in-Accepted.is); inst_limit_in_bounds = omega (arith, c.if-insts-lt-INST_LIMIT.false) }
 
 pub returns : goal.returns
 returns c ls e =
-    rw (enough c.args.image.now (insts_of c.args.insts.now) ls (rw (length_records inst) c.if-insts-lt-INST_LIMIT.false) (rw e c.if-labels-lt-LABEL_RECORDS.false)) (record { answers = c.check-checked.ensures; insts-are = c.fill.ensures })
+    rw (enough c.args.image.now (insts_of c.args.insts.now) ls (rw (length_records inst) c.if-insts-lt-INST_LIMIT.false) (rw e c.if-labels-lt-LABEL_RECORDS.false)) (record { answers = c.check-checked.ensures; insts_are = c.fill.ensures })

@@ -4,13 +4,13 @@ use native.Mathlib.Omega.{arith}
 use Rattle.inst_decode.specs.Decode.{means}
 use Rattle.inst_decode.proofs.Facts.{read_in_lem}
 use Rattle.loader.specs.Reading.{Ahead}
-use Rattle.loader.proofs.Instructions.{refused_is, next-refused, next_five, next_six, next-plain, next-label, further_at}
+use Rattle.loader.proofs.Instructions.{refused_is, next_refused, next_five, next_six, next_plain, next_label, further_at}
 use Rattle.loader.proofs.reading.next_inst.Goals as goal
 
 pub returns-in_default : goal.returns-in_default
 unfolding Ahead
 returns-in_default c =
-    let r = refused_is c.decode-did.result c.in_default.not-Read in record { value = λ s h e. rw c.number.ensures (next-refused _ _ s e _ (sym c.decode-did.ensures ∙ r)); ahead = tt }
+    let r = refused_is c.decode-did.result c.in_default.not-Read in record { value = λ s h e. rw c.number.ensures (next_refused _ _ s e _ (sym c.decode-did.ensures ∙ r)); ahead = tt }
 
 pub returns-then-c-ge-INST_LIMIT : goal.returns-then-c-ge-INST_LIMIT
 unfolding Ahead means
@@ -25,7 +25,7 @@ counted-d-requires c =
 pub returns-then-i-ne-LABEL : goal.returns-then-i-ne-LABEL
 unfolding Ahead means
 returns-then-i-ne-LABEL c =
-    let f = (sym c.decode-did.ensures ∙ ap means c.in-Read.is) in rw c.counted-d.ensures (record { value = λ s h e. next-plain _ _ s e _ _ f c.if-c-ge-INST_LIMIT.false c.if-i-ne-LABEL.true; ahead = further_at _ _ _ _ f c.if-c-ge-INST_LIMIT.false _ refl refl })
+    let f = (sym c.decode-did.ensures ∙ ap means c.in-Read.is) in rw c.counted-d.ensures (record { value = λ s h e. next_plain _ _ s e _ _ f c.if-c-ge-INST_LIMIT.false c.if-i-ne-LABEL.true; ahead = further_at _ _ _ _ f c.if-c-ge-INST_LIMIT.false _ refl refl })
 
 pub returns-then-c-ge-LABEL_RECORDS : goal.returns-then-c-ge-LABEL_RECORDS
 unfolding Ahead means
@@ -33,7 +33,7 @@ returns-then-c-ge-LABEL_RECORDS c = record { value = λ s h e. next_six _ _ s e 
 
 pub is_start-requires : goal.is_start-requires
 unfolding means
-is_start-requires c = (read_in_lem _ _ _ _ (sym c.decode-did.ensures ∙ ap means c.in-Read.is)).name-inside
+is_start-requires c = (read_in_lem _ _ _ _ (sym c.decode-did.ensures ∙ ap means c.in-Read.is)).name_inside
 
 pub labelled-requires : goal.labelled-requires
 labelled-requires c = rw c.counted-d.ensures c.if-c-ge-LABEL_RECORDS.false
@@ -42,4 +42,4 @@ pub returns : goal.returns
 unfolding Ahead means
 returns c =
     let f = (sym c.decode-did.ensures ∙ ap means c.in-Read.is) in rw (c.labelled.ensures, c.counted-d.ensures, c.is_start.ensures)
-    (record { value = λ s h e. next-label _ _ s e _ _ f h c.if-c-ge-INST_LIMIT.false c.if-i-ne-LABEL.false c.if-c-ge-LABEL_RECORDS.false; ahead = further_at _ _ _ _ f c.if-c-ge-INST_LIMIT.false _ refl refl })
+    (record { value = λ s h e. next_label _ _ s e _ _ f h c.if-c-ge-INST_LIMIT.false c.if-i-ne-LABEL.false c.if-c-ge-LABEL_RECORDS.false; ahead = further_at _ _ _ _ f c.if-c-ge-INST_LIMIT.false _ refl refl })
