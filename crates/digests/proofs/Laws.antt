@@ -1,5 +1,5 @@
 -- Laws of digests. Assumes nothing.
-use Prim.Native.Nat.{ℕ, suc, ◌+◌, ◌≤◌, ◌<◌, ◌^◌}
+use Prim.Native.Nat.{ℕ, suc, ◌+◌, ◌≤◌, ◌<◌}
 use mathlib.Core.Path.{◌≡◌, refl}
 use mathlib.Core.Bool.{Bool, true, false, cond}
 use mathlib.Core.List.{List, [], ◌∷◌, ◌++◌}
@@ -12,44 +12,20 @@ use lib.Seq.{drop-cons}
 use Rattle.machine.specs.declared.Machine.{Machine}
 use Rattle.machine.specs.Lookup.{Program}
 use Rattle.machine.specs.Run.{Result}
-use Rattle.digests.specs.Digests.{once, mixed, mixed_all, stepped, digest_after, agreeing}
+use Rattle.std.specs.Int.{from_bool}
+use Rattle.std.specs.List.{fold}
+use Rattle.std.proofs.lemmas.List.Sums.{fold-append}
+use Rattle.digests.specs.Digests.{mixed, stepped, digest_after, agreeing}
 
-pub once_small : (h half : ℕ) → once h half < 2 ^ 32
-unfolding once
-once_small h half = omega arith
-
-pub mixed_small : (h x : ℕ) → mixed h x < 2 ^ 32
-unfolding mixed
-mixed_small h x = once_small _ _
-
-pub all_small : (h : ℕ) (xs : List ℕ) → h < 2 ^ 32 → mixed_all h xs < 2 ^ 32
-unfolding mixed_all
-all_small h [] small = small
-all_small h (x ∷ xs) small = all_small (mixed h x) xs (mixed_small h x)
-
-pub all_append : (h : ℕ) (xs ys : List ℕ) → mixed_all h (xs ++ ys) ≡ mixed_all (mixed_all h xs) ys
-unfolding mixed_all
-all_append h [] ys = refl
-all_append h (x ∷ xs) ys = all_append (mixed h x) xs ys
-
--- a loop over numbers from a digest `from` on: h is the digest of the first i
-pub record Mixing (from : ℕ) (xs : List ℕ) (h i : ℕ) : Type 0 where
-  pub inside : i ≤ length xs
-  pub small : h < 2 ^ 32
-  pub rest : mixed_all h (drop i xs) ≡ mixed_all from xs
-
-pub mixing_next : (from : ℕ) (xs : List ℕ) (h i r : ℕ) → Mixing from xs h i → i < length xs → r ≡ mixed h (get_or xs i 0) → Mixing from xs r (i + 1)
-unfolding mixed_all
-mixing_next from xs h i r k below e =
-    record { inside = omega arith; small = rw e (mixed_small _ _); rest = rw (e, add-one) (rw (drop-cons xs i 0) at k.rest) }
-
-pub mixing_end : (from : ℕ) (xs : List ℕ) (h i : ℕ) → Mixing from xs h i → length xs ≤ i → h ≡ mixed_all from xs
-unfolding mixed_all
-mixing_end from xs h i k past = rw (drop_of_length-le xs past) at k.rest
+-- a `bool` as a number
+pub of_bool : (b : Bool) → from_bool b ≡ cond b 1 0
+of_bool true = refl
+of_bool false = refl
 
 -- the parts of a digest
-pub parts : (xs ys zs us : List ℕ) (a b c r : ℕ) → a ≡ mixed_all 7 xs → b ≡ mixed_all a ys → c ≡ mixed_all b zs → r ≡ mixed_all c us → r ≡ mixed_all 7 (xs ++ ys ++ zs ++ us)
-parts xs ys zs us a b c r p q s t = simp all_append (cc)
+pub parts : (xs ys zs us : List ℕ) (a b c r : ℕ) → a ≡ fold mixed 7 xs → b ≡ fold mixed a ys → c ≡ fold mixed b zs → r ≡ fold mixed c us
+    → r ≡ fold mixed 7 (xs ++ ys ++ zs ++ us)
+parts xs ys zs us a b c r p q s t = simp fold-append (cc)
 
 -- a loop over digests from the machine m on: the first i agree, and led to the machine m'
 pub record Agreeing (p : Program) (m : Machine) (ds : List ℕ) (m' : Machine) (i : ℕ) : Type 0 where

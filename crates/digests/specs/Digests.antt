@@ -1,7 +1,8 @@
 -- The digest of a machine's whole state after a step, and how far recorded digests are those of a program's steps. No part of document 01: crate replay
 -- compares by it.
 use Rattle.std.specs.Prelude.{ℕ, suc, ◌+◌, ◌*◌, ◌/◌, ◌%◌, ◌^◌, cond, List, [], ◌∷◌, ◌++◌, eqb, get_or, take}
-use Rattle.c_answers.specs.Endings.{ending_number}
+use Rattle.std.specs.List.{fold}
+use Rattle.machine.specs.Ending.{ending_number}
 use Rattle.machine.specs.declared.Machine.{Machine}
 use Rattle.machine.specs.Change.{height_of_calls}
 use Rattle.machine.specs.Lookup.{Program}
@@ -19,18 +20,13 @@ once h half = (h * 257 + half) % prime
 unfoldable pub mixed : ℕ → ℕ → ℕ
 mixed h x = once (once h (x % 2 ^ 32)) (x / 2 ^ 32)
 
--- numbers one after the other
-unfoldable pub mixed_all : ℕ → List ℕ → ℕ
-mixed_all h [] = h
-mixed_all h (x ∷ xs) = mixed_all (mixed h x) xs
-
 -- what a digest starts with: the ending, the cell that was dumped, and the machine's numbers
 abbrev pub numbers : ℕ → ℕ → Machine → List ℕ
 numbers ending cell m = ending ∷ cell ∷ m.ip ∷ m.flags ∷ cond m.halted 1 0 ∷ m.height ∷ height_of_calls m ∷ []
 
--- the numbers, the data stack and the call stack from the bottom, and the memory
+-- the numbers, the data stack and the call stack from the bottom, and the memory, one after the other
 unfoldable pub digest_of : ℕ → ℕ → Machine → ℕ
-digest_of ending cell m = mixed_all 7 (numbers ending cell m ++ take m.height m.stack ++ take (height_of_calls m) m.calls ++ m.memory)
+digest_of ending cell m = fold mixed 7 (numbers ending cell m ++ take m.height m.stack ++ take (height_of_calls m) m.calls ++ m.memory)
 
 -- one step: a run of limit 1, with a buffer of one cell that holds 0
 abbrev pub stepped : Program → Machine → Result

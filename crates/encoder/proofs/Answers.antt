@@ -6,25 +6,25 @@ use mathlib.Core.List.{List}
 use native.Mathlib.Omega.{arith}
 use lib.Dec.{leb}
 use lib.ListN.{length, take}
-use borrow.Author.Tests.{leb-true, le-leb, lt-leb}
+use borrow.Author.Tests.{leb-true, leb-false, le-leb, lt-leb}
 use Rattle.inst.specs.declared.Inst.{Inst}
-use Rattle.inst.proofs.Laws.{never, and_left, and_right}
+use Rattle.inst.proofs.Laws.{and_left, and_right}
 use Rattle.machine.specs.Encode.{all_well_formed, bytes_of_all, unencoded, encoded, in_room, size_of}
-use Rattle.encoder.specs.declared.Room.{Room}
 use Rattle.encoder.specs.Encoder.{Fits}
+use Rattle.std.specs.Prelude.{Option, Some, None, SomeIff}
 
 -- a number is no size
 pub other : {A : Type 0} (m n : ℕ) → unencoded m ≡ encoded n → A
 other m n e = let z : ◌≡◌ {A = ℕ} 0 1 = cc in absurd (omega arith)
 
--- a length that is 0 where a test fails
-pub ill_len : (b : Bool) (n k : ℕ) → k ≡ cond b n 0 → 0 < n → k ≡ 0 → b ≡ false
-ill_len true n k e h z = absurd (omega arith)
-ill_len false n k e h z = refl
+-- a length where a test holds
+pub no_len : (b : Bool) (n : ℕ) → None ≡ cond b (Some n) None → b ≡ false
+no_len true n e = cc
+no_len false n e = refl
 
-pub well_len : (b : Bool) (n k : ℕ) → k ≡ cond b n 0 → (k ≡ 0 → ⊥) → (b ≡ true) × (k ≡ n)
-well_len true n k e z = (refl, e)
-well_len false n k e z = absurd (z e)
+pub some_len : (b : Bool) (n k : ℕ) → Some k ≡ cond b (Some n) None → (b ≡ true) × (k ≡ n)
+some_len true n k e = (refl, cc)
+some_len false n k e = cc
 
 -- by the room
 module _ (n room : ℕ) where
@@ -32,7 +32,7 @@ module _ (n room : ℕ) where
   unfolding in_room
   in_room_lem h = rw (le-leb n room h)
 
-  pub past_room : room < n → in_room room (encoded n) ≡ unencoded 10
+  past_room : room < n → in_room room (encoded n) ≡ unencoded 10
   unfolding in_room
   past_room h = rw (lt-leb n room h)
 
@@ -45,25 +45,28 @@ module _ (n room : ℕ) where
   fits_back m h = fits_by (leb n room) m refl h
 
 -- the room behind `len` bytes more
-module _ (room n len : ℕ) (r : Room) (f : Fits room n r) where
-  short_by : (b : Bool) → r.short ≡ b → r.left < len → room < n + len
-  short_by true e l = let p = f.past e in omega arith
-  short_by false e l = let p = f.rest e in omega arith
+pub taken_none : (room n len : ℕ) → Fits room n None → Fits room (n + len) None
+unfolding Fits
+taken_none room n len f = omega arith
 
-  pub taken_short : r.left < len → Fits room (n + len) (record { left = r.left; short = true })
-  taken_short l = record { inside = f.inside; rest = λ e. never (sym e); past = λ e. short_by r.short refl l }
-
-  pub taken_fits : len ≤ r.left → Fits room (n + len) (record { left = r.left - len; short = r.short })
-  taken_fits l =
-      let i = f.inside in
-      record { inside = omega arith; rest = λ e. (let p = f.rest e in omega arith); past = λ e. (let p = f.past e in omega arith) }
+pub taken_some : (room n len left : ℕ) (r : Option ℕ) → Fits room n (Some left) → SomeIff r (len ≤ left) (left - len) → Fits room (n + len) r
+unfolding Fits
+taken_some room n len left None f h = by_room (leb len left) refl where
+  by_room : (b : Bool) → leb len left ≡ b → room < n + len
+  by_room true e = absurd (h (leb-true len left e))
+  by_room false e = let l = leb-false len left e in omega arith
+taken_some room n len left (Some x) f h = omega (arith, h.0, h.1)
 
 -- what is left tells how much was taken
-pub room_fits : (room n : ℕ) (r : Room) → Fits room n r → r.short ≡ false → encoded (room - r.left) ≡ in_room room (encoded n)
-room_fits room n r f e =
-    let p = f.rest e in
-    let q : room - r.left ≡ n = omega arith in
+pub room_fits : (room n left : ℕ) → Fits room n (Some left) → encoded (room - left) ≡ in_room room (encoded n)
+unfolding Fits
+room_fits room n left f =
+    let q : room - left ≡ n = omega arith in
     rw q (sym (in_room_lem n room (omega arith)))
+
+pub room_passed : (room n : ℕ) → Fits room n None → unencoded 10 ≡ in_room room (encoded n)
+unfolding Fits
+room_passed room n f = sym (past_room n room f)
 
 -- 9, or the size
 module _ (image : List ℕ) (is : List Inst) (count : ℕ) where

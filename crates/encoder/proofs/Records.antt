@@ -10,11 +10,11 @@ use lib.ListN.{length, get_or, take, drop, length-append, drop_of_length-le}
 use lib.Seq.{sets, drop-cons, get_or-take, length-take-le, length-sets}
 use Rattle.inst.specs.declared.Inst.{Inst}
 use Rattle.inst.specs.Records.{well_formed}
-use Rattle.inst.proofs.Laws.{never, and_left, and_right, sets_more}
+use Rattle.inst.proofs.Laws.{and_left, and_right, sets_more}
 use Rattle.inst_encode.specs.Encode.{as_bytes}
 use Rattle.machine.specs.Encode.{all_well_formed, bytes_of_all, unencoded, encoded, in_room, size_of}
-use Rattle.encoder.specs.declared.Room.{Room}
-use Rattle.encoder.specs.declared.Written.{Written}
+use Rattle.std.specs.Prelude.{Option, Some, Result}
+use Rattle.encoder.specs.declared.EncodeError.{EncodeError}
 use Rattle.encoder.specs.Encoder.{means, Fits}
 use Rattle.encoder.proofs.Answers.{ill, whole}
 
@@ -36,7 +36,7 @@ module _ (is : List Inst) (count : ℕ) (within : count ≤ length is) where
   left_none i h = let l : length (take count is) ≤ i = rw (length-take-le count is within) h in drop_of_length-le (take count is) l
 
 -- the first pass at record i: all before are well formed, and r is what their bytes left of the room
-pub record Checked (image : List ℕ) (is : List Inst) (count room : ℕ) (r : Room) (i : ℕ) : Type 0 where
+pub record Checked (image : List ℕ) (is : List Inst) (count room : ℕ) (r : Option ℕ) (i : ℕ) : Type 0 where
   pub within : count ≤ length is
   pub inside : i ≤ count
   pub well : all_well_formed image (take count is) ≡ all_well_formed image (left is count i)
@@ -45,18 +45,19 @@ pub record Checked (image : List ℕ) (is : List Inst) (count room : ℕ) (r : R
   pub total : bytes + length (bytes_of_all image (left is count i)) ≡ length (bytes_of_all image (take count is))
 
 module _ (image : List ℕ) (is : List Inst) (count room : ℕ) where
-  pub checked_none : count ≤ length is → Checked image is count room (record { left = room; short = false }) 0
+  pub checked_none : count ≤ length is → Checked image is count room (Some room) 0
+  unfolding Fits
   checked_none h =
-      record { within = h; inside = omega arith; well = refl; bytes = 0; fits = record { inside = omega arith; rest = λ e. omega arith; past = λ e. never e }; total = omega arith }
+      record { within = h; inside = omega arith; well = refl; bytes = 0; fits = omega arith; total = omega arith }
 
-  module _ (r : Room) (i : ℕ) (s : Checked image is count room r i) where
+  module _ (r : Option ℕ) (i : ℕ) (s : Checked image is count room r i) where
     -- the next record is ill
     pub checked_ill : (x : Inst) → i < count → IsAt is i x → well_formed image x ≡ false → size_of image is count ≡ unencoded 9
     unfolding all_well_formed
     checked_ill x h e w = ill image is count (s.well ∙ rw (left_next is count s.within i x h e, w))
 
     -- or its size is added
-    pub checked_next : (x : Inst) (len : ℕ) (r' : Room) → i < count → IsAt is i x → well_formed image x ≡ true → len ≡ length (as_bytes image x)
+    pub checked_next : (x : Inst) (len : ℕ) (r' : Option ℕ) → i < count → IsAt is i x → well_formed image x ≡ true → len ≡ length (as_bytes image x)
         → ((room n : ℕ) → Fits room n r → Fits room (n + len) r') → Checked image is count room r' (i + 1)
     unfolding all_well_formed bytes_of_all
     checked_next x len r' h e w l f =
@@ -71,7 +72,7 @@ module _ (image : List ℕ) (is : List Inst) (count room : ℕ) where
           total = omega arith;
         }
 
-    pub checked_all : (w : Written) → count ≤ i → ((n : ℕ) → Fits room n r → means w ≡ in_room room (encoded n)) → means w ≡ in_room room (size_of image is count)
+    pub checked_all : (w : Result ℕ EncodeError) → count ≤ i → ((n : ℕ) → Fits room n r → means w ≡ in_room room (encoded n)) → means w ≡ in_room room (size_of image is count)
     unfolding all_well_formed bytes_of_all
     checked_all w h f =
         let none = left_none is count s.within i h in
@@ -88,7 +89,7 @@ pub record Stored (image : List ℕ) (is : List Inst) (count : ℕ) (out₀ out 
   pub gives : sets out at (bytes_of_all image (left is count i)) ≡ sets out₀ 0 (bytes_of_all image (take count is))
 
 module _ (image : List ℕ) (is : List Inst) (count : ℕ) (out₀ out : List ℕ) (at i : ℕ) (s : Stored image is count out₀ out at i) where
-  -- what put_inst requires of the next record
+  -- what as_bytes requires of the next record
   pub stored_well : (r : Inst) → i < count → IsAt is i r → well_formed image r ≡ true
   unfolding all_well_formed
   stored_well r h e = and_left (well_formed image r) _ (rw (left_next is count s.within i r h e) at s.well)

@@ -1,17 +1,20 @@
 -- The code's answers, by the encoder of document 01.
-use Rattle.std.specs.Prelude.{ℕ, ◌+◌, ◌≤◌, ◌<◌, ◌≡◌, true, false}
+use Rattle.std.specs.Prelude.{ℕ, ◌+◌, ◌<◌, ◌≡◌, Option, Some, None, Result, Ok, Err}
 use Rattle.machine.specs.Encode.{Encoded, unencoded, encoded}
-use Rattle.encoder.specs.declared.Room.{Room}
-use Rattle.encoder.specs.declared.Written.{Written}
-use Rattle.encoder.specs.declared.Written.TheVariants.{Refused, Bytes}
+use Rattle.encoder.specs.declared.EncodeError.{EncodeError}
+use Rattle.encoder.specs.declared.EncodeError.TheVariants.{IllFormed, NoRoom}
+
+-- the numbers of the code's errors
+abbrev pub number_of : EncodeError → ℕ
+number_of IllFormed = 9
+number_of NoRoom = 10
 
 -- the number or the value of each case of the code's answer
-unfoldable pub means : Written → Encoded
-means (Refused n) = unencoded n
-means (Bytes n) = encoded n
+unfoldable pub means : Result ℕ EncodeError → Encoded
+means (Ok n) = encoded n
+means (Err e) = unencoded (number_of e)
 
 -- what is left of a room behind records of n bytes, or that they passed it
-pub record Fits (room n : ℕ) (r : Room) : Type 0 where
-  pub inside : r.left ≤ room
-  pub rest : r.short ≡ false → r.left + n ≡ room
-  pub past : r.short ≡ true → room < n
+unfoldable pub Fits : (room n : ℕ) → Option ℕ → Type 0
+Fits room n (Some left) = left + n ≡ room
+Fits room n None = room < n

@@ -15,8 +15,7 @@ use Rattle.word.specs.Words.{little_endian}
 use Rattle.inst_decode.specs.Decode as decode
 use Rattle.inst_encode.specs.Encode.{bytes_of}
 use Rattle.machine.specs.declared.Label.{Label}
-use Rattle.machine.specs.declared.Ending.{Ending}
-use Rattle.machine.specs.declared.Ending.TheVariants.{Limit, Number}
+use Rattle.machine.specs.Ending.{Ending, Limit, Number}
 use Rattle.machine.specs.Load.{start_name, linked, scan_one, and_then, scan, last_of, any_native, last_is_halt, closed, Loaded, Load, rejects, accepts, checked, entered, finished, loads, load, insts_after, labels_after, fresh, count_of}
 use Rattle.machine.specs.Lookup.{walk, lookup_from, lookup}
 use Rattle.machine.specs.Change.{with_stack, with_calls, moved, stopped}

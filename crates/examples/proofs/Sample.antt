@@ -11,8 +11,7 @@ use Rattle.inst.specs.Records.{name_ok, name_in, fits, well_formed, same}
 use Rattle.word.specs.Words.{little_endian}
 use Rattle.inst_decode.specs.Decode as decode
 use Rattle.machine.specs.declared.Label.{Label}
-use Rattle.machine.specs.declared.Ending.{Ending}
-use Rattle.machine.specs.declared.Ending.TheVariants.{Halted}
+use Rattle.machine.specs.Ending.{Ending, Halted}
 use Rattle.machine.specs.Load.{linked, scan_one, and_then, scan, last_of, any_native, last_is_halt, closed, Load, rejects, accepts, checked, entered, finished, loads, load, insts_after, labels_after, fresh}
 use Rattle.machine.specs.Lookup.{walk, lookup_from, lookup}
 use Rattle.machine.specs.Change.{height_of_calls, with_stack, moved, stopped}

@@ -1,51 +1,73 @@
 // The eight flags (mm's flag.rs).
 #![tactic(auto)]
 
-ghost use Rattle.std.specs.Prelude.{◌≡◌, ◌≤◌};
+ghost use Rattle.std.specs.Prelude.{◌≡◌, ◌≤◌, ◌<◌, MatchOption};
 ghost use Rattle.flag.specs.Flags as spec;
+ghost use Rattle.flag.specs.Jumps.{jump_of};
 
 use inst::ops;
+use std::cmp::Ordering;
 
-const E: u8 = 1;
+// The flags in the order of their bits.
+#[derive(Clone, Copy)]
+pub enum Flag {
+    E,
+    L,
+    LE,
+    G,
+    GE,
+    NE,
+    Z,
+    NZ,
+}
 
-const L: u8 = 2;
+// What an order sets: LE and GE go with L and G, and equal words clear both.
+const LESS: u8 = (1 << Flag::L as u8) + (1 << Flag::LE as u8) + (1 << Flag::NE as u8);
 
-const LE: u8 = 4;
+const EQUAL: u8 = 1 << Flag::E as u8;
 
-const G: u8 = 8;
+const GREATER: u8 = (1 << Flag::G as u8) + (1 << Flag::GE as u8) + (1 << Flag::NE as u8);
 
-const GE: u8 = 16;
+const ZERO: u8 = 1 << Flag::Z as u8;
 
-const NE: u8 = 32;
+const NONZERO: u8 = 1 << Flag::NZ as u8;
 
-const Z: u8 = 64;
-
-const NZ: u8 = 128;
-
-// what an order sets: LE and GE go with L and G, and equal words clear both
-const LESS: u8 = L + LE + NE;
-
-const GREATER: u8 = G + GE + NE;
-
-pub fn cmp(a: u64, b: u64) -> u8
-    ensures { result ≡ spec.cmp a b }
-{
-    if a == b {
-        if a == 0 { E + Z } else { E + NZ }
-    } else if a < b {
-        if a == 0 { LESS + Z } else { LESS + NZ }
-    } else {
-        // above b, and so not 0
-        GREATER + NZ
+impl Flag {
+    // The flag that the jump with the first byte `op` tests, where that is a conditional jump.
+    pub fn of_jump(op: u64) -> Option<Flag>
+        ensures { MatchOption result (12 ≤ op → 19 < op) (λ flag. jump_of flag ≡ op) }
+    {
+        match op {
+            ops::JE => Some(Flag::E),
+            ops::JL => Some(Flag::L),
+            ops::JLE => Some(Flag::LE),
+            ops::JG => Some(Flag::G),
+            ops::JGE => Some(Flag::GE),
+            ops::JNE => Some(Flag::NE),
+            ops::JZ => Some(Flag::Z),
+            ops::JNZ => Some(Flag::NZ),
+            _ => None,
+        }
     }
 }
 
-// Whether the flag that the jump with the first byte `op` tests is set. Only our own steps call it, for the
-// conditional jumps, JE to JNZ.
-pub fn is_set(flags: u8, op: u64) -> bool
-    requires at_least { 12 ≤ op }
-    requires at_most { op ≤ 19 }
-    ensures { result ≡ spec.is_set flags op }
+#[tactic(auto, unfolding(crate::specs::Flags::cmp))]
+pub fn cmp(a: u64, b: u64) -> u8
+    ensures { result ≡ spec.cmp a b }
 {
-    (flags >> (op - ops::JE)) % 2 == 1
+    let order = match a.cmp(&b) {
+        Ordering::Less => LESS,
+        Ordering::Equal => EQUAL,
+        Ordering::Greater => GREATER,
+    };
+    let zero = if a == 0 { ZERO } else { NONZERO };
+    order + zero
+}
+
+// Whether a flag is set, as the conditional jump tests it.
+#[tactic(auto, unfolding(crate::specs::Flags::is_set))]
+pub fn is_set(flags: u8, flag: Flag) -> bool
+    ensures { result ≡ spec.is_set flags (jump_of flag) }
+{
+    (flags >> flag as u8) % 2 == 1
 }

@@ -155,20 +155,20 @@ quotient_means (number s u m e a) not_number = nan_bits
 quotient_means (number s u m e a) (endless t) = zero_bits (unlike s t)
 quotient_means (number s u m e a) (number t v n d b) = div_finite s m e t n d u v a b
 
--- ---- the operations on patterns
-module _ (a b : ℕ) {x y : Float} (p : x ≡ of_bits f a) (q : y ≡ of_bits f b) where
-  pub sum_of : to_bits f (add f x y) ≡ sum_bits a b
+-- ---- the operations on patterns, as the code writes them
+module _ (a b : ℕ) {x y : Float} {r : ℕ} (p : x ≡ of_bits f a) (q : y ≡ of_bits f b) where
+  pub sum_of : r ≡ to_bits f (add f x y) → r ≡ sum_bits a b
   unfolding sum_bits
-  sum_of = sum_means (read a p) (read b q)
+  sum_of e = e ∙ sum_means (read a p) (read b q)
 
-  pub difference_of : to_bits f (sub f x y) ≡ difference_bits a b
+  pub difference_of : r ≡ to_bits f (sub f x y) → r ≡ difference_bits a b
   unfolding sub difference_bits
-  difference_of = sum_means (read a p) (opposite_means (read b q))
+  difference_of e = e ∙ sum_means (read a p) (opposite_means (read b q))
 
-  pub product_of : to_bits f (mul f x y) ≡ product_bits a b
+  pub product_of : r ≡ to_bits f (mul f x y) → r ≡ product_bits a b
   unfolding product_bits
-  product_of = product_means (read a p) (read b q)
+  product_of e = e ∙ product_means (read a p) (read b q)
 
-  pub quotient_of : to_bits f (div f x y) ≡ quotient_bits a b
+  pub quotient_of : r ≡ to_bits f (div f x y) → r ≡ quotient_bits a b
   unfolding quotient_bits
-  quotient_of = quotient_means (read a p) (read b q)
+  quotient_of e = e ∙ quotient_means (read a p) (read b q)

@@ -9,7 +9,7 @@ ghost use Rattle.float64_c.specs.Apply.{bit, applied};
 fn number(b: bool) -> u64
     ensures { result ≡ bit b }
 {
-    if b { 1 } else { 0 }
+    u64::from(b)
 }
 
 #[unsafe(no_mangle)]

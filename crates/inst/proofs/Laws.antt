@@ -1,5 +1,5 @@
 -- Laws of tests, forms and parts of a list that the proofs share. Assumes nothing.
-use Prim.Native.Nat.{ℕ, zero, suc, ◌<◌, ◌≤◌, ◌+◌, ◌-◌}
+use Prim.Native.Nat.{ℕ, zero, suc, ◌<◌, ◌+◌, ◌-◌}
 use mathlib.Core.Path.{◌≡◌, refl, ◌∙◌, ap, sym}
 use mathlib.Core.Bool.{Bool, true, false, cond, ◌&&◌, ◌||◌, and-false}
 use mathlib.Core.List.{List, [], ◌∷◌, ◌++◌}
@@ -7,11 +7,10 @@ use native.Mathlib.Nat.{add-zero, add-suc, suc-add}
 use native.Mathlib.Numerals.{add-one}
 use native.Mathlib.Omega.{arith}
 use lib.Dec.{T, eqb, ltb, leb, lit<}
-use lib.ListN.{length, get_or, set, take, drop, drop_of_length-le}
+use lib.ListN.{length, get_or, set, take, drop}
 use lib.Seq.{drop-cons, take-nil, sets, slice}
 use borrow.Author.Tests.{ne_eqb, lt-leb}
-use Rattle.inst.specs.Forms.{Form, none, eight, one, name, undefined, has_none, has_eight, has_one, has_name, form_of, letter_of, form_at}
-use Rattle.inst.specs.Records.{name_ok}
+use Rattle.inst.specs.Forms.{Form, none, eight, one, name, undefined, has_none, has_eight, has_one, has_name, form_of}
 
 -- by a test, and what no test can be
 pub by_test : {A : Type 0} (P : A → Type 0) (b : Bool) (x y : A) → (b ≡ true → P x) → (b ≡ false → P y) → P (cond b x y)
@@ -49,37 +48,37 @@ module _ (op : ℕ) (h : 255 < op) where
   unfolding form_of has_none has_eight has_one has_name
   no_form = let t : T true = tt in simp (other, above, and-false)
 
-pub form_back : (f : Form) → f ≡ form_at (letter_of f)
+-- the letter of each form in the code's table
+unfoldable pub letter_of : Form → ℕ
+letter_of none = 45
+letter_of eight = 56
+letter_of one = 49
+letter_of name = 110
+letter_of undefined = 63
+
+-- and the form of a letter; any other stands for the undefined form
+abbrev of_letter : ℕ → Form
+of_letter n = cond (eqb n 45) none (cond (eqb n 56) eight (cond (eqb n 49) one (cond (eqb n 110) name undefined)))
+
+letter_back : (f : Form) → f ≡ of_letter (letter_of f)
 unfolding letter_of
-form_back none = refl
-form_back eight = refl
-form_back one = refl
-form_back name = refl
-form_back undefined = refl
+letter_back none = refl
+letter_back eight = refl
+letter_back one = refl
+letter_back name = refl
+letter_back undefined = refl
 
--- any other letter stands for the undefined form
-pub other_form : (n : ℕ) → (n ≡ 45 → ⊥) → (n ≡ 56 → ⊥) → (n ≡ 49 → ⊥) → (n ≡ 110 → ⊥) → form_at n ≡ undefined
-other_form n p q r s = simp (ne_eqb n 45 p, ne_eqb n 56 q, ne_eqb n 49 r, ne_eqb n 110 s)
+pub is_letter : (op n k : ℕ) → n ≡ letter_of (form_of op) → n ≡ k → of_letter k ≡ form_of op
+is_letter op n k e h = sym (letter_back (form_of op) ∙ ap of_letter (sym e ∙ h))
 
--- the form of a first byte, by its letter
-pub is_form : (op n k : ℕ) → n ≡ letter_of (form_of op) → n ≡ k → form_of op ≡ form_at k
-is_form op n k e h = form_back (form_of op) ∙ ap form_at (sym e ∙ h)
-
-pub not_form : (op n : ℕ) → n ≡ letter_of (form_of op) → (n ≡ 45 → ⊥) → (n ≡ 56 → ⊥) → (n ≡ 49 → ⊥) → (n ≡ 110 → ⊥) → form_of op ≡ undefined
-not_form op n e p q r s = form_back (form_of op) ∙ ap form_at (sym e) ∙ other_form n p q r s
+pub no_letter : (op n : ℕ) → n ≡ letter_of (form_of op) → (n ≡ 45 → ⊥) → (n ≡ 56 → ⊥) → (n ≡ 49 → ⊥) → (n ≡ 110 → ⊥) → undefined ≡ form_of op
+no_letter op n e p q r s =
+    let k : of_letter n ≡ undefined = simp (ne_eqb n 45 p, ne_eqb n 56 q, ne_eqb n 49 r, ne_eqb n 110 s) in
+    sym (letter_back (form_of op) ∙ ap of_letter (sym e) ∙ k)
 
 -- one element more
 pub drop_next : (s : List ℕ) (i : ℕ) → i < length s → drop i s ≡ get_or s i 0 ∷ drop (i + 1) s
 drop_next s i h = rw add-one (drop-cons s i 0 h)
-
--- what is left of a name decides
-pub name_next : (s : List ℕ) (i : ℕ) → i < length s → name_ok (drop i s) ≡ (ltb (get_or s i 0) 128 && name_ok (drop (i + 1) s))
-unfolding name_ok
-name_next s i h = rw (drop_next s i h)
-
-pub name_end : (s : List ℕ) (i : ℕ) → length s ≤ i → name_ok (drop i s) ≡ true
-unfolding name_ok
-name_end s i h = rw (drop_of_length-le s h)
 
 -- `&l[from..to]` lends the slice
 pub slice_of : {A : Type 0} (from to : ℕ) (l : List A) → take (to - from) (drop from l) ≡ slice from to l

@@ -1,27 +1,38 @@
--- Laws of names that are compared byte by byte. Assumes nothing.
-use Prim.Native.Nat.{ℕ, suc, ◌+◌, ◌<◌, ◌≤◌}
-use mathlib.Core.Path.{◌≡◌, refl, ap}
-use mathlib.Core.Bool.{true, false, ◌&&◌, and-false}
+-- Laws of names that are compared or tested byte by byte. Assumes nothing.
+use Prim.Native.Nat.{ℕ, zero, suc, ◌<◌, ◌≤◌}
+use mathlib.Core.Path.{◌≡◌, refl, sym}
+use mathlib.Core.Bool.{Bool, true, false, and-false}
 use mathlib.Core.List.{List, [], ◌∷◌}
+use native.Mathlib.Omega.{arith}
+use lib.ListN.{get_or}
+use borrow.Author.Tests.{lt-ltb, le-ltb}
+use Rattle.std.specs.Prelude.{MatchBool, IsAscii}
+use Rattle.std.specs.Str.{IsNotAscii}
+use lib.Pointwise.{pointwise}
 use lib.Dec.{eqb}
-use lib.ListN.{length, get_or, drop, drop_of_length-le}
-use Rattle.inst.proofs.Laws.{drop_next}
-use Rattle.inst.specs.Records.{same}
+use Rattle.std.specs.Prelude.{nat_eq}
+use Rattle.inst.specs.Records.{name_ok, same}
 
--- what is left of two names decides
-pub same_next : (a b : List ℕ) (i : ℕ) → i < length a → i < length b
-    → same (drop i a) (drop i b) ≡ (eqb (get_or a i 0) (get_or b i 0) && same (drop (i + 1) a) (drop (i + 1) b))
-unfolding same
-same_next a b i h k = rw (drop_next a i h, drop_next b i k)
+below : (s : List ℕ) → ((i : ℕ) → get_or s i 0 < 128) → name_ok s ≡ true
+unfolding name_ok
+below [] h = refl
+below (b ∷ s) h = rw (lt-ltb b 128 (h 0), below s (λ i. h (suc i)))
 
-pub same_end : (a b : List ℕ) (i : ℕ) → length a ≤ i → length b ≤ i → same (drop i a) (drop i b) ≡ true
-unfolding same
-same_end a b i h k = rw (drop_of_length-le a h, drop_of_length-le b k)
+above : (s : List ℕ) (i : ℕ) → 128 ≤ get_or s i 0 → name_ok s ≡ false
+unfolding name_ok
+above [] i h = absurd (omega arith)
+above (b ∷ s) zero h = rw (le-ltb b 128 h)
+above (b ∷ s) (suc i) h = rw (above s i h, and-false)
 
--- names of two lengths
-pub same_long : (a b : List ℕ) → (length a ≡ length b → ⊥) → same a b ≡ false
+-- the library's test is the check of a name
+pub ascii_is : (s : List ℕ) (b : Bool) → MatchBool b (IsAscii s) (IsNotAscii s) → b ≡ name_ok s
+ascii_is s true h = sym (below s h)
+ascii_is s false h = sym (above s h.0 h.1)
+
+-- and its equality of slices that of names
+pub equal_is : (a b : List ℕ) → pointwise nat_eq a b ≡ same a b
 unfolding same
-same_long [] [] h = absurd (h refl)
-same_long [] (y ∷ b) h = refl
-same_long (x ∷ a) [] h = refl
-same_long (x ∷ a) (y ∷ b) h = rw (same_long a b (λ e. h (ap suc e))) (and-false (eqb x y))
+equal_is [] [] = refl
+equal_is [] (y ∷ b) = refl
+equal_is (x ∷ a) [] = refl
+equal_is (x ∷ a) (y ∷ b) = rw (equal_is a b)

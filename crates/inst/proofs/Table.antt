@@ -3,7 +3,12 @@ use mathlib.Core.Path.{◌≡◌, ◌∙◌, ap, sym}
 use Prim.Native.Nat.{ℕ, zero, suc, ◌+◌, ◌<◌}
 use native.Mathlib.Nat.{add-zero, zero-add, add-suc, suc-add, le_of_suc-le-suc, not-suc-le-zero}
 use lib.ListN.{get_or}
-use Rattle.inst.specs.Forms.{values}
+use mathlib.Core.List.{List, [], ◌∷◌}
+
+-- f i and the values behind it, n in all
+abbrev pub values : {A : Type 0} → (ℕ → A) → ℕ → ℕ → List A
+values f i zero = []
+values f i (suc n) = f i ∷ values f (suc i) n
 
 module _ {A : Type 0} (d : A) (f : ℕ → A) where
   from : (n i k : ℕ) → k < n → get_or (values f i n) k d ≡ f (i + k)

@@ -1,5 +1,7 @@
 -- The operand's form of each first byte, as document 01 lists them.
-use Rattle.std.specs.Prelude.{ℕ, zero, suc, Bool, cond, ◌&&◌, ◌||◌, List, [], ◌∷◌, eqb, leb}
+use Rattle.std.specs.Prelude.{ℕ, Bool, cond, ◌&&◌, ◌||◌, eqb, leb, Option, Some, None}
+use Rattle.inst.specs.declared.forms.Form.{Form as Kind}
+use Rattle.inst.specs.declared.forms.Form.TheVariants.{Bare, Eight, One, Name}
 
 -- the first bytes from a to b
 abbrev pub within : ℕ → ℕ → ℕ → Bool
@@ -28,23 +30,14 @@ has_name op = within 12 21 op || eqb op 28 || eqb op 30 || eqb op 37
 unfoldable pub form_of : ℕ → Form
 form_of op = cond (has_none op) none (cond (has_eight op) eight (cond (has_one op) one (cond (has_name op) name undefined)))
 
--- the letter that stands for each form in the code's table: - 8 1 n ?
-unfoldable pub letter_of : Form → ℕ
-letter_of none = 45
-letter_of eight = 56
-letter_of one = 49
-letter_of name = 110
-letter_of undefined = 63
+-- the definition's form of the code's
+unfoldable pub form_at : Kind → Form
+form_at Bare = none
+form_at Eight = eight
+form_at One = one
+form_at Name = name
 
--- and the form that a letter stands for
-abbrev pub form_at : ℕ → Form
-form_at n = cond (eqb n 45) none (cond (eqb n 56) eight (cond (eqb n 49) one (cond (eqb n 110) name undefined)))
-
--- f i and the values behind it, n in all
-abbrev pub values : {A : Type 0} → (ℕ → A) → ℕ → ℕ → List A
-values f i zero = []
-values f i (suc n) = f i ∷ values f (suc i) n
-
--- a table of 256 entries, by first byte
-unfoldable pub form_table : List ℕ
-form_table = values (λ op. letter_of (form_of op)) 0 256
+-- and of what the code finds for a first byte: what has none is undefined
+unfoldable pub means : Option Kind → Form
+means None = undefined
+means (Some k) = form_at k

@@ -1,24 +1,20 @@
 // The operand's form of each first byte: a constant table of 256 entries, 16 to a line.
-ghost use Rattle.std.specs.Prelude.{◌≡◌};
-ghost use Rattle.inst.specs.Forms.{letter_of, form_of, form_table};
+ghost use Rattle.std.specs.Prelude.{◌≡◌, ◌<◌, slice_index_or};
+ghost use Rattle.inst.specs.Forms.{means, form_of};
 
-// The forms by their letters in the table.
-pub const UNDEFINED: u8 = b'?';
-
-pub const NONE: u8 = b'-';
-
-pub const EIGHT: u8 = b'8';
-
-pub const ONE: u8 = b'1';
-
-pub const NAME: u8 = b'n';
-
-pub const TABLE_SIZE: usize = 256;
+// What stands behind a first byte that is defined. `Bare` is the definition's `none`: beside Option's None that name would mislead.
+#[derive(Clone, Copy, PartialEq, Eq, Debug)]
+pub enum Form {
+    Bare,
+    Eight,
+    One,
+    Name,
+}
 
 // NOP PUSH POP INC DEC IADD ISUB IMUL IDIV CMP SWAP DUP JE JL JLE JG
 // JGE JNE JZ JNZ JMP LABEL BOT FADD FSUB FMUL FDIV IDMP CALL RET EXTERN F2I
 // F2U I2F I2U U2I U2F NATIVE READ8 WRITE8 READ16 WRITE16 READ32 WRITE32 READ64 WRITE64 FDMP, and HALT at 69
-const FORMS: [u8; TABLE_SIZE] = *b"\
+static LETTERS: [u8; 256] = *b"\
 -8--------88nnnn\
 nnnnnn-----1n-n-\
 -----n--------1?\
@@ -36,22 +32,30 @@ nnnnnn-----1n-n-\
 ????????????????\
 ????????????????";
 
-// The table. A constant array is built anew on the stack wherever it stands in the code: so a call makes the table once, before its
-// loop, and lends it to what it calls.
-pub fn form_table() -> [u8; TABLE_SIZE]
-    ensures { result ≡ form_table }
+// The letter of a first byte.
+fn letter(op: u64) -> u8
+    requires { op < 256 }
+    ensures { result ≡ slice_index_or LETTERS op 0 }
 {
-    FORMS
+    LETTERS[op as usize]
 }
 
-// The form of a first byte by the table. A number that is no byte is undefined too. Only our own crates call it, and lend it the table.
-pub fn form(forms: &[u8; TABLE_SIZE], op: u64) -> u8
-    requires { forms.now ≡ form_table }
-    ensures { result ≡ letter_of (form_of op) }
-{
-    if op < 256 {
-        forms[op as usize]
-    } else {
-        UNDEFINED
+impl Form {
+    // The form of a first byte; None for an undefined one, and for a number that is no byte. A letter is one load and some
+    // comparisons: a match over the first bytes themselves becomes a jump through a table, and a load of mixed code takes twice as long.
+    #[inline(always)]
+    pub fn of(op: u64) -> Option<Form>
+        ensures { means result ≡ form_of op }
+    {
+        if op >= 256 {
+            return None;
+        }
+        match letter(op) {
+            b'-' => Some(Form::Bare),
+            b'8' => Some(Form::Eight),
+            b'1' => Some(Form::One),
+            b'n' => Some(Form::Name),
+            _ => None,
+        }
     }
 }

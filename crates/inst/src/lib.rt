@@ -5,7 +5,7 @@ mod forms;
 pub mod ops;
 mod records;
 
-pub use forms::{EIGHT, NAME, NONE, ONE, TABLE_SIZE, form, form_table};
+pub use forms::Form;
 pub use records::{has_form, is_well_formed, name_in, name_ok, same_name};
 
 // An instruction record: the first byte, the cell, number or stream, and where in the image the name stands.

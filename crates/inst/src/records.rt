@@ -1,40 +1,23 @@
 // Names as parts of the image, and the well-formed record.
-ghost use Rattle.std.specs.Prelude.{◌≡◌, ◌&&◌, eqb};
-ghost use Rattle.inst.specs.Forms.{form_at, form_table};
+ghost use Rattle.std.specs.Prelude.{◌≡◌};
+ghost use Rattle.inst.specs.Forms.{means};
 ghost use Rattle.inst.specs.Records.{name_ok, name_in, same, fits, well_formed};
 
 use crate::Inst;
-use crate::forms::{EIGHT, NAME, NONE, ONE, TABLE_SIZE, form};
+use crate::forms::Form;
 
 // The check of a name: every byte is below 128.
 pub fn name_ok(bytes: &[u8]) -> bool
     ensures { result ≡ name_ok bytes.now }
 {
-    let mut i = 0;
-    while i < bytes.len() {
-        if bytes[i] >= 128 {
-            return false;
-        }
-        i += 1;
-    }
-    true
+    bytes.is_ascii()
 }
 
 // Whether two names are the same bytes.
 pub fn same_name(a: &[u8], b: &[u8]) -> bool
     ensures { result ≡ same a.now b.now }
 {
-    if a.len() != b.len() {
-        return false;
-    }
-    let mut i: usize = 0;
-    while i < a.len() {
-        if a[i] != b[i] {
-            return false;
-        }
-        i += 1;
-    }
-    true
+    a == b
 }
 
 // Whether a name lies in the image and passes its check. Its end is computed only once it is known to fit, so it can't wrap.
@@ -53,33 +36,25 @@ pub fn name_in(image: &[u8], start: u64, len: u64) -> bool
     name_ok(&image[from..to])
 }
 
-// Whether two fields that an instruction doesn't use are 0.
-fn unused(a: u64, b: u64) -> bool
-    ensures { result ≡ (eqb a 0 && eqb b 0) }
+// Whether a record's fields are as the form asks; those of an undefined first byte never are.
+#[tactic(auto, unfolding(crate::specs::Records::fits, crate::specs::Forms::form_at, crate::specs::Forms::means))]
+pub fn has_form(image: &[u8], inst: Inst, form: Option<Form>) -> bool
+    ensures { result ≡ fits image.now inst (means form) }
 {
-    if a == 0 { b == 0 } else { false }
-}
-
-// Whether a record's fields are as the form with this letter asks.
-pub fn has_form(image: &[u8], inst: Inst, letter: u8) -> bool
-    ensures { result ≡ fits image.now inst (form_at letter) }
-{
-    let val = inst.val;
-    let start = inst.start;
-    let len = inst.len;
-    match letter {
-        NONE => val == 0 && unused(start, len),
-        EIGHT => unused(start, len),
-        ONE => val <= 255 && unused(start, len),
-        NAME => val == 0 && name_in(image, start, len),
-        _ => false,
+    let no_name = inst.start == 0 && inst.len == 0;
+    match form {
+        Some(Form::Bare) => inst.val == 0 && no_name,
+        Some(Form::Eight) => no_name,
+        Some(Form::One) => inst.val <= 255 && no_name,
+        Some(Form::Name) => inst.val == 0 && name_in(image, inst.start, inst.len),
+        None => false,
     }
 }
 
-// Whether a record is none that number 34 calls ill. Only crate known calls it, and lends it the table of forms.
-pub fn is_well_formed(forms: &[u8; TABLE_SIZE], image: &[u8], inst: Inst) -> bool
-    requires { forms.now ≡ form_table }
+// Whether a record is none that number 34 calls ill.
+#[tactic(auto, unfolding(crate::specs::Records::well_formed))]
+pub fn is_well_formed(image: &[u8], inst: Inst) -> bool
     ensures { result ≡ well_formed image.now inst }
 {
-    has_form(image, inst, form(forms, inst.typ))
+    has_form(image, inst, Form::of(inst.typ))
 }

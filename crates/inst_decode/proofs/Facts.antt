@@ -9,7 +9,7 @@ use lib.ListN.{length, get_or}
 use borrow.Author.Tests.{ne_eqb, ltb-false, leb-false, le-leb}
 use Rattle.word.specs.Words.{word}
 use Rattle.inst.specs.declared.Inst.{Inst}
-use Rattle.inst.specs.Forms.{Form, none, eight, one, name, undefined, has_none, has_eight, has_one, has_name, form_of, letter_of}
+use Rattle.inst.specs.Forms.{Form, none, eight, one, name, undefined, has_none, has_eight, has_one, has_name, form_of}
 use Rattle.inst.specs.Records.{Bytes, name_ok, part, name_in, fits, well_formed}
 use Rattle.inst.proofs.Laws.{by_test}
 use Rattle.inst_decode.specs.Decode.{Answer, refused, reads, type_of, magnitude, is_negative, read_name, read_operand, from_bytes}
@@ -36,29 +36,29 @@ pub read_as : (op : ℕ) → form_of op ≡ one → (form_of (type_of op) ≡ on
 unfolding type_of
 read_as op e = by_test (λ t. (form_of t ≡ one) × (eqb t 27 ≡ false)) (eqb op 27) 46 op (λ _. (fdmp_form, refl)) (λ k. (e, k))
 
-pub not_one : (op : ℕ) (f : Form) → form_of op ≡ f → (letter_of f ≡ 49 → ⊥) → eqb op 27 ≡ false
-unfolding form_of has_none has_eight has_one has_name letter_of
-not_one op f e p = ne_eqb op 27 (λ h. p (ap letter_of (sym e) ∙ ap (λ (k : ℕ). letter_of (form_of k)) h))
+pub not_one : (op : ℕ) (f : Form) → form_of op ≡ f → (f ≡ one → ⊥) → eqb op 27 ≡ false
+unfolding form_of has_none has_eight has_one has_name
+not_one op f e p = ne_eqb op 27 (λ h. p (sym e ∙ ap form_of h))
 
 module _ (image : List ℕ) (at op : ℕ) where
   named_told : (field : ℕ) → form_of op ≡ name → at + 9 ≤ length image → Told image at (read_name image at op field)
-  unfolding read_name well_formed fits name_in letter_of
+  unfolding read_name well_formed fits name_in
   named_told field e h =
       let len = magnitude field in
       by_test (Told image at) (is_negative field) _ _ (λ _. (lit≤ tt, lit≤ tt))
       (λ _. by_test (Told image at) (ltb (length image) (at + 9 + len)) _ _ (λ _. (lit≤ tt, lit≤ tt))
       (λ k. let l = ltb-false (length image) (at + 9 + len) k in
       by_test (Told image at) (name_ok (part image (at + 9) len)) _ _
-      (λ g. record { moves = omega arith; inside = omega arith; name_inside = omega arith; formed = λ _. simp (e, le-leb _ _ l, g); not_idmp = not_one op name e (λ z. omega arith) })
+      (λ g. record { moves = omega arith; inside = omega arith; name_inside = omega arith; formed = λ _. simp (e, le-leb _ _ l, g); not_idmp = not_one op name e (λ z. cc) })
       (λ _. (lit≤ tt, lit≤ tt))))
 
   operand_told : (f : Form) → form_of op ≡ f → at < length image → Told image at (read_operand image at op f)
-  unfolding read_operand well_formed fits letter_of
+  unfolding read_operand well_formed fits
   operand_told none e h =
-      record { moves = lit≤ tt; inside = omega arith; name_inside = omega arith; formed = λ _. simp e; not_idmp = not_one op none e (λ z. omega arith) }
+      record { moves = lit≤ tt; inside = omega arith; name_inside = omega arith; formed = λ _. simp e; not_idmp = not_one op none e (λ z. cc) }
   operand_told eight e h =
       by_test (Told image at) (ltb (length image) (at + 9)) _ _ (λ _. (lit≤ tt, lit≤ tt))
-      (λ k. record { moves = lit≤ tt; inside = ltb-false _ _ k; name_inside = omega arith; formed = λ _. simp e; not_idmp = not_one op eight e (λ z. omega arith) })
+      (λ k. record { moves = lit≤ tt; inside = ltb-false _ _ k; name_inside = omega arith; formed = λ _. simp e; not_idmp = not_one op eight e (λ z. cc) })
   operand_told one e h =
       by_test (Told image at) (ltb (length image) (at + 2)) _ _ (λ _. (lit≤ tt, lit≤ tt))
       (λ k. record { moves = lit≤ tt; inside = ltb-false _ _ k; name_inside = omega arith; formed = λ b. let l : get_or image (at + 1) 0 ≤ 255 = omega (arith, b (at + 1)) in simp ((read_as op e).0, le-leb _ _ l); not_idmp = (read_as op e).1 })

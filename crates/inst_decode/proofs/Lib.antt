@@ -1,3 +1,2 @@
-mod Laws
 pub mod Facts
 mod Examples

@@ -1,9 +1,10 @@
 -- Decoding one instruction (Inst::from_bytes), as document 01 has it.
-use Rattle.std.specs.Prelude.{ℕ, ◌+◌, ◌%◌, ◌^◌, Bool, cond, ◌&&◌, not, List, eqb, ltb, leb, length, get_or}
+use Rattle.std.specs.Prelude.{ℕ, ◌+◌, ◌%◌, ◌^◌, Bool, cond, ◌&&◌, not, List, eqb, ltb, leb, length, get_or, Result, Ok, Err}
 use Rattle.word.specs.Words.{word}
 use Rattle.inst.specs.declared.Inst.{Inst}
 use Rattle.inst_decode.specs.declared.Decoded.{Decoded}
-use Rattle.inst_decode.specs.declared.Decoded.TheVariants.{Undefined, PastEnd, BadName, Read}
+use Rattle.inst_decode.specs.declared.DecodeError.{DecodeError}
+use Rattle.inst_decode.specs.declared.DecodeError.TheVariants.{Undefined, PastEnd, BadName}
 use Rattle.inst.specs.Forms.{Form, none, eight, one, name, undefined, form_of}
 use Rattle.inst.specs.Records.{plain, named, name_ok, part}
 
@@ -12,12 +13,16 @@ pub data Answer : Type 0 where
   refused : ℕ → Answer
   reads : Inst → ℕ → Answer
 
--- the number or the values of each case of the code's answer
-unfoldable pub means : Decoded → Answer
-means Undefined = refused 2
-means PastEnd = refused 3
-means BadName = refused 4
-means (Read i size) = reads i size
+-- the number of each of the code's errors
+abbrev pub number_of : DecodeError → ℕ
+number_of Undefined = 2
+number_of PastEnd = 3
+number_of BadName = 4
+
+-- the code's answer
+abbrev pub means : Result Decoded DecodeError → Answer
+means (Err e) = refused (number_of e)
+means (Ok d) = reads d.inst d.size
 
 -- byte 27 decodes as FDMP, 46
 unfoldable pub type_of : ℕ → ℕ

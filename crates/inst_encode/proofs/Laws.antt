@@ -1,13 +1,15 @@
 -- Bytes of numbers and records, stored one after another. Assumes nothing.
 use Prim.Native.Nat.{ℕ, suc, ◌<◌, ◌≤◌, ◌+◌, ◌-◌, ◌/◌, ◌%◌}
-use mathlib.Core.Path.{◌≡◌, refl, ◌∙◌}
+use mathlib.Core.Path.{◌≡◌, ◌∙◌, sym, ap}
 use mathlib.Core.List.{List, [], ◌∷◌, ◌++◌}
 use native.Mathlib.Numerals.{add-one}
 use native.Mathlib.Omega.{arith}
 use lib.ListN.{length, set, take, drop}
 use lib.Seq.{sets}
 use Rattle.inst.specs.declared.Inst.{Inst}
-use Rattle.inst.specs.Forms.{Form, none, eight, one, name, undefined, form_of, letter_of}
+use Rattle.inst.specs.Forms.{Form, none, eight, one, name, undefined, form_of, form_at, means}
+use Rattle.inst.specs.declared.forms.Form.{Form as Kind}
+use Rattle.std.specs.Prelude.{Some}
 use Rattle.inst.proofs.Laws.{sets_more}
 use Rattle.inst.proofs.Parts.{lent_whole}
 use Rattle.inst_encode.specs.Encode.{bytes_of, operand_bytes, as_bytes}
@@ -38,26 +40,20 @@ stored_copied l b xs vs at n e h p k m q = stored_both l b _ vs xs at n h p (len
 pub stored_first : (out out' bytes ops : List ℕ) (at op : ℕ) → bytes ≡ op ∷ ops → out' ≡ sets (set out at op) (at + 1) ops → out' ≡ sets out at bytes
 stored_first out out' bytes ops at op e p = p ∙ rw (add-one, e)
 
--- how many bytes a record has: the first byte and the operand without its name, and the name, whose length is 0 where there is none
-unfoldable pub head_size : Form → ℕ
-head_size none = 1
-head_size eight = 9
-head_size one = 2
-head_size name = 9
-head_size undefined = 1
-
-unfoldable pub record_size : Inst → ℕ
-record_size i = head_size (form_of i.typ) + i.len
+-- how many bytes a record of a form has, with a name of this length
+unfoldable pub size_by : Form → ℕ → ℕ
+size_by none len = 1
+size_by eight len = 9
+size_by one len = 2
+size_by name len = 9 + len
+size_by undefined len = 1
 
 -- a record's bytes by its form, and what has no operand
 pub bytes_are : (image : List ℕ) (i : Inst) (f : Form) → form_of i.typ ≡ f → as_bytes image i ≡ i.typ ∷ operand_bytes image i f
 unfolding as_bytes
 bytes_are image i f e = rw e
 
-pub no_operand : (image : List ℕ) (i : Inst) (f : Form) (n : ℕ) → n ≡ letter_of f → (n ≡ 56 → ⊥) → (n ≡ 49 → ⊥) → (n ≡ 110 → ⊥) → (operand_bytes image i f ≡ []) × (head_size f ≡ 1)
-unfolding letter_of operand_bytes head_size
-no_operand image i none n e p q r = (refl, refl)
-no_operand image i eight n e p q r = absurd (p e)
-no_operand image i one n e p q r = absurd (q e)
-no_operand image i name n e p q r = absurd (r e)
-no_operand image i undefined n e p q r = (refl, refl)
+-- the form that the code found
+pub is_form : (op : ℕ) (f k : Kind) → means (Some f) ≡ form_of op → f ≡ k → form_of op ≡ form_at k
+unfolding means
+is_form op f k e h = sym e ∙ ap form_at h

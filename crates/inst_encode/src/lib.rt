@@ -1,25 +1,22 @@
 // Encoding one well-formed record (Inst::as_bytes of mm's inst.rs), straight into the output.
 #![tactic(auto)]
 
-ghost use Rattle.std.specs.Prelude.{◌≡◌, true, cond, ◌++◌, ◌+◌, ◌≤◌, length};
+ghost use Rattle.std.specs.Prelude.{◌≡◌, true, cond, ◌++◌, ◌+◌, ◌≤◌, length, Some, None};
 ghost use Rattle.std.proofs.lemmas.List.Edits.{sets};
-ghost use Rattle.inst.specs.Forms.{form_table};
 ghost use Rattle.inst.specs.Records.{part, well_formed};
 ghost use Rattle.inst_encode.specs.Encode.{bytes_of, as_bytes};
 
-use inst::{EIGHT, Inst, NAME, ONE, TABLE_SIZE, form, form_table, has_form};
+use inst::{Form, Inst, has_form};
 
 // The `size` lowest bytes of a number from `at` on, the lowest first.
 fn put_number(out: &mut [u8], at: usize, size: usize, number: u64)
     requires { at + size ≤ length out.old }
     ensures { out.new ≡ sets out.old at (bytes_of size number) }
 {
-    let mut i = 0;
     let mut left = number;
-    while i < size {
+    for i in 0..size {
         out[at + i] = (left % 256) as u8;
         left = left / 256;
-        i += 1;
     }
 }
 
@@ -37,66 +34,45 @@ fn put_named(out: &mut [u8], at: usize, image: &[u8], start: u64, len: u64)
     out[begin..end].copy_from_slice(&image[from..to]);
 }
 
-// How many bytes a record is written in; 0 for one that number 34 calls ill. One search for the form serves both. Only the
-// encoder calls it, and lends it the table of forms.
-pub fn checked_len(forms: &[u8; TABLE_SIZE], image: &[u8], inst: Inst) -> usize
-    requires { forms.now ≡ form_table }
-    ensures { result ≡ cond (well_formed image.now inst) (length (as_bytes image.now inst)) 0 }
+// How many bytes a record is written in; None for one that number 34 calls ill. One search for the form serves both.
+pub fn checked_len(image: &[u8], inst: Inst) -> Option<usize>
+    ensures { result ≡ cond (well_formed image.now inst) (Some (length (as_bytes image.now inst))) None }
 {
-    let letter = form(forms, inst.typ);
-    if !has_form(image, inst, letter) {
-        return 0;
+    let form = Form::of(inst.typ)?;
+    if !has_form(image, inst, Some(form)) {
+        return None;
     }
-    let len = inst.len as usize;
-    match letter {
-        EIGHT => 9 + len,
-        ONE => 2 + len,
-        NAME => 9 + len,
-        _ => 1 + len,
-    }
-}
-
-// as_bytes with the table of forms lent: the encoder makes it once, not for each record. Beside as_bytes only the encoder calls it,
-// and proves all three: it tests the record, and the room for all before it writes the first.
-pub fn put_inst(
-    forms: &[u8; TABLE_SIZE],
-    image: &[u8],
-    inst: Inst,
-    out: &mut [u8],
-    at: usize,
-) -> usize
-    requires forms_value { forms.now ≡ form_table }
-    requires inst_value { well_formed image.now inst ≡ true }
-    requires inst_in_bounds { at + length (as_bytes image.now inst) ≤ length out.old }
-    ensures value { result ≡ length (as_bytes image.now inst) }
-    ensures out_after { out.new ≡ sets out.old at (as_bytes image.now inst) }
-{
-    out[at] = inst.typ as u8;
-    match form(forms, inst.typ) {
-        EIGHT => {
-            put_number(out, at + 1, 8, inst.val);
-            9
-        }
-        ONE => {
-            put_number(out, at + 1, 1, inst.val);
-            2
-        }
-        NAME => {
-            put_named(out, at + 1, image, inst.start, inst.len);
-            9 + inst.len as usize
-        }
-        _ => 1,
-    }
+    Some(match form {
+        Form::Bare => 1,
+        Form::Eight => 9,
+        Form::One => 2,
+        Form::Name => 9 + inst.len as usize,
+    })
 }
 
 // Writes a record's bytes from `at` on and returns how many they are. The rest of the output stays.
 // The caller tests the record and the room first (9 and 10 of the encoder).
+#[tactic(auto, unfolding(crate::specs::Encode::as_bytes, crate::specs::Encode::operand_bytes, inst::specs::Forms::means, inst::specs::Forms::form_at))]
 pub fn as_bytes(image: &[u8], inst: Inst, out: &mut [u8], at: usize) -> usize
     requires inst_value { well_formed image.now inst ≡ true }
     requires inst_in_bounds { at + length (as_bytes image.now inst) ≤ length out.old }
     ensures value { result ≡ length (as_bytes image.now inst) }
     ensures out_after { out.new ≡ sets out.old at (as_bytes image.now inst) }
 {
-    let forms = form_table();
-    put_inst(&forms, image, inst, out, at)
+    out[at] = inst.typ as u8;
+    match Form::of(inst.typ) {
+        Some(Form::Eight) => {
+            put_number(out, at + 1, 8, inst.val);
+            9
+        }
+        Some(Form::One) => {
+            put_number(out, at + 1, 1, inst.val);
+            2
+        }
+        Some(Form::Name) => {
+            put_named(out, at + 1, image, inst.start, inst.len);
+            9 + inst.len as usize
+        }
+        Some(Form::Bare) | None => 1,
+    }
 }

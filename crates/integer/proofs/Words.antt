@@ -1,28 +1,11 @@
--- Products modulo 2 ^ 64: of words by halves of 32 bits, and of signed numbers by their words.
+-- Products of signed numbers modulo 2 ^ 64, by their words.
 -- Assumes nothing.
-use Rattle.std.proofs.Common.{◌≡◌, ℕ, zero, suc, ◌+◌, ◌*◌, ◌/◌, ◌%◌, ◌^◌, ◌<◌, ◌≤◌, ℤ, pos, negsuc, ◌*ℤ◌, neg_ℤ, ap, mul_assoc, mul_comm, mul-le-mul, mul-zero, div-add-mod', mul-add, arith}
-use native.Mathlib.Nat.{add-mod-mod, add-mul-mod_self_right}
+use Rattle.std.proofs.Common.{◌≡◌, ℕ, zero, suc, ◌+◌, ◌*◌, ◌/◌, ◌%◌, ◌^◌, ℤ, pos, negsuc, ◌*ℤ◌, neg_ℤ, ap, mul_assoc, mul_comm, mul-zero, div-add-mod', mul-add, arith}
 use Rattle.nan.specs.Cells.{modulo64}
-
-pub half_product : {x y : ℕ} → x < 2 ^ 32 → y < 2 ^ 32 → x * y < 2 ^ 64
-half_product {x} {y} h k =
-    let hx : x ≤ 0xFFFFFFFF = omega arith in
-    let hy : y ≤ 0xFFFFFFFF = omega arith in
-    omega (arith, mul-le-mul hx hy)
 
 -- a product by the quotient and the remainder of its right factor
 split : (m x y : ℕ) → x * y ≡ x * (y / m) * m + x * (y % m)
 split m x y = rw (mul_assoc, ← mul-add, div-add-mod')
-
-four : (a b : ℕ) → a * b ≡ a % 2 ^ 32 * (b % 2 ^ 32) + (a / 2 ^ 32 * (b % 2 ^ 32) + a % 2 ^ 32 * (b / 2 ^ 32)) * 2 ^ 32 + a / 2 ^ 32 * (b / 2 ^ 32) * 2 ^ 64
-four a b = omega (arith, split (2 ^ 32) (a / 2 ^ 32) b, split (2 ^ 32) (a % 2 ^ 32) b, split (2 ^ 32) b a, mul_comm a b, mul_comm b (a / 2 ^ 32), mul_comm b (a % 2 ^ 32))
-
-upper : (p q : ℕ) → (p % 2 ^ 32 + q % 2 ^ 32) % 2 ^ 32 * 2 ^ 32 ≡ (p + q) * 2 ^ 32 % 2 ^ 64
-upper p q = omega arith
-
--- of the products of halves, the lower ones whole and the mixed ones' lower halves are all that counts
-pub halves : (a b : ℕ) → (a % 2 ^ 32 * (b % 2 ^ 32) + (a / 2 ^ 32 * (b % 2 ^ 32) % 2 ^ 32 + a % 2 ^ 32 * (b / 2 ^ 32) % 2 ^ 32) % 2 ^ 32 * 2 ^ 32) % 2 ^ 64 ≡ a * b % 2 ^ 64
-halves a b = rw (four a b, upper, add-mod-mod, add-mul-mod_self_right)
 
 -- a factor keeps two numbers equal, or opposite, modulo 2 ^ 64
 same : (y a r : ℕ) → a % 2 ^ 64 ≡ r % 2 ^ 64 → y * a % 2 ^ 64 ≡ y * r % 2 ^ 64

@@ -1,8 +1,9 @@
--- What a run has found out about its instructions, in the arrays keys and targets.
+-- What a run has found out about its instructions.
 use Rattle.std.specs.Prelude.{ℕ, ◌+◌, ◌*◌, ◌<◌, ◌≤◌, ◌≡◌, Bool, true, ◌&&◌, ◌||◌, List, eqb, leb, length, get_or}
 use Rattle.inst.specs.Records.{well_formed}
 use Rattle.machine.specs.Lookup.{Program, leads_to, lookup}
 use Rattle.tables.specs.Tables.{number_at, insts_of, inst_of}
+use Rattle.known.specs.declared.Known.{Known}
 
 -- so many instructions can be known, from the first on; and the key of one that isn't
 abbrev pub known_limit : ℕ
@@ -28,17 +29,17 @@ pub record Over (p : Program) (xs : List ℕ) : Type 0 where
   pub inside : p.count * 32 ≤ length xs
 
 -- P holds of each known instruction's key, target and index
-abbrev pub Entries : (ℕ → ℕ → ℕ → Type 0) → List ℕ → List ℕ → Type 0
-Entries P keys targets = (i : ℕ) → i < known_limit → (get_or keys i 0 ≡ unknown → ⊥) → P (get_or keys i 0) (get_or targets i 0) i
+abbrev pub Entries : (ℕ → ℕ → ℕ → Type 0) → Known → Type 0
+Entries P k = (i : ℕ) → i < known_limit → (get_or k.keys i 0 ≡ unknown → ⊥) → P (get_or k.keys i 0) (get_or k.targets i 0) i
 
-abbrev pub Known : Program → List ℕ → List ℕ → List ℕ → Type 0
-Known p xs keys targets = Entries (KnownAt p xs) keys targets
+abbrev pub AllKnown : Program → List ℕ → Known → Type 0
+AllKnown p xs k = Entries (KnownAt p xs) k
 
 -- their records are in the table
-abbrev pub Listed : List ℕ → List ℕ → List ℕ → Type 0
-Listed xs keys targets = Entries (λ (key t i : ℕ). i * 32 + 31 < length xs) keys targets
+abbrev pub Listed : List ℕ → Known → Type 0
+Listed xs k = Entries (λ (key t i : ℕ). i * 32 + 31 < length xs) k
 
--- the two arrays have their length
-pub record Sized (keys targets : List ℕ) : Type 0 where
-  pub keys_long : length keys ≡ known_limit
-  pub targets_long : length targets ≡ known_limit
+-- both arrays have their length, by their type
+pub record Sized (k : Known) : Type 0 where
+  pub keys_long : length k.keys ≡ known_limit
+  pub targets_long : length k.targets ≡ known_limit

@@ -1,2 +1,2 @@
 pub mod Accepted
-pub mod Turns
+pub mod Answered

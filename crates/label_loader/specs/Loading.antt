@@ -1,10 +1,11 @@
 -- What the call answers and leaves where the label table is lent as records, by the load of document 01.
-use Rattle.std.specs.Prelude.{ℕ, List}
+use Rattle.std.specs.Prelude.{ℕ, Result, Ok, Err, List}
 use Rattle.machine.specs.declared.Label.{Label}
 use Rattle.machine.specs.Load.{Load, rejects, accepts, load, count_of, labels_after}
 use Rattle.tables.specs.Tables.{insts_of}
-use Rattle.loader.specs.declared.Loading.{Loading}
-use Rattle.loader.specs.declared.Loading.TheVariants.{Refused, Accepted}
+use Rattle.loader.specs.declared.Accepted.{Accepted}
+use Rattle.loader.specs.declared.refusal.Refusal.{Refusal}
+use Rattle.loader.specs.Refusals.{number_of}
 use Rattle.loader.specs.Loading.{insts_left}
 use Rattle.label_loader.specs.declared.LoadAnswer.{LoadAnswer}
 
@@ -36,6 +37,6 @@ unfoldable pub load_call : (image insts : List ℕ) → List Label → LoadCall
 load_call image insts labels = loaded_by (load_of image insts labels) insts labels
 
 -- the answer of crate loader, as numbers
-unfoldable pub numbers_of : Loading → LoadAnswer
-numbers_of (Refused n) = record { number = n; ip = 0; count = 0 }
-numbers_of (Accepted ip count) = record { number = 0; ip = ip; count = count }
+abbrev pub numbers_of : Result Accepted Refusal → LoadAnswer
+numbers_of (Err e) = record { number = number_of e; ip = 0; count = 0 }
+numbers_of (Ok a) = record { number = 0; ip = a.ip; count = a.count }

@@ -7,7 +7,7 @@ use Rattle.tables.specs.Tables.{insts_of}
 use Rattle.lookup.specs.Walks.{lent_program}
 use Rattle.run.specs.declared.Ran.{Ran}
 use Rattle.run.specs.Runs.{answer, run_bytes}
-use Rattle.c_answers.specs.Endings.{ending_number}
+use Rattle.machine.specs.Ending.{ending_number}
 
 -- the run of document 01 with the instruction table lent as bytes
 abbrev pub run_of : (image insts : List ℕ) (labels : List Label) → ℕ → Machine → ℕ → List ℕ → Result

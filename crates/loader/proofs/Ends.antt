@@ -1,28 +1,18 @@
 -- After the last byte: what the code's tests say of the definition. Assumes nothing.
 use Prim.Native.Nat.{ℕ, ◌+◌, ◌<◌, ◌≤◌}
 use mathlib.Core.Path.{◌≡◌, refl, ap, sym, ◌∙◌}
-use mathlib.Core.Bool.{Bool, true, false, cond, not, ◌||◌}
+use mathlib.Core.Bool.{Bool, true, false, cond, ◌||◌}
 use mathlib.Core.List.{List, [], ◌∷◌, ◌++◌}
-use native.Mathlib.Omega.{arith}
 use lib.ListN.{length, length-append}
+use Rattle.std.specs.Prelude.{Some, None, Ok}
 use borrow.Author.Tests.{lt-ltb, le-ltb}
 use Rattle.inst.specs.declared.Inst.{Inst}
 use Rattle.machine.specs.Limits.{inst_limit}
 use Rattle.machine.specs.Load.{halt, Scan, goes, Entry, no_entry, entry, any_native, last_is_halt, closed, rejects, checked, entered, finished}
-use Rattle.loader.specs.declared.Counts.{Counts}
-use Rattle.loader.specs.declared.Loading.TheVariants.{Accepted}
+use Rattle.loader.specs.declared.reading.Counts.{Counts}
 use Rattle.loader.specs.Loading.{checked_of}
-use Rattle.loader.specs.Reading.{is_found, pointer, entry_of, counts_of}
+use Rattle.loader.specs.Reading.{target_of, entry_of, counts_of}
 use Rattle.loader.proofs.Scans.{snoc_native}
-
--- a test that is negated
-pub was_false : (b : Bool) → not b ≡ true → b ≡ false
-was_false true e = sym e
-was_false false e = refl
-
-pub was_true : (b : Bool) → not b ≡ false → b ≡ true
-was_true true e = refl
-was_true false e = sym e
 
 -- HALT appended, or not
 closed_long : (is : List Inst) → length (closed is) ≡ cond (last_is_halt is) (length is) (length is + 1)
@@ -46,25 +36,21 @@ closed_native is = by_halt (last_is_halt is)
     by_halt false = snoc_native is halt ∙ or_false (any_native is)
 
 -- by the entry
-entered_none : (s : Scan) (e : Entry) → is_found e ≡ false → entered s e ≡ rejects 7
-unfolding is_found entered
+entered_none : (s : Scan) (e : Entry) → None ≡ target_of e → entered s e ≡ rejects 7
+unfolding target_of entered
 entered_none s no_entry h = refl
-entered_none s (entry t) h = absurd (let z : ◌≡◌ {A = ℕ} 0 1 = cc in omega arith)
+entered_none s (entry t) h = cc
 
-entered_at : (s : Scan) (e : Entry) → is_found e ≡ true → entered s e ≡ checked (record { insts = closed s.insts; labels = s.labels; ip = pointer e })
-unfolding is_found pointer entered
-entered_at s no_entry h = absurd (let z : ◌≡◌ {A = ℕ} 0 1 = cc in omega arith)
-entered_at s (entry t) h = refl
+entered_at : (s : Scan) (e : Entry) (ip : ℕ) → Some ip ≡ target_of e → entered s e ≡ checked (record { insts = closed s.insts; labels = s.labels; ip = ip })
+unfolding target_of entered
+entered_at s no_entry ip h = cc
+entered_at s (entry t) ip h = let z : ip ≡ t = cc in rw z
 
 -- of a scan s, of which the code keeps c
 module _ (image : List ℕ) (c : Counts) (s : Scan) (e : c ≡ counts_of image s) where
-  found_is : c.found ≡ is_found (entry_of image s)
+  start_is : c.start ≡ target_of (entry_of image s)
   unfolding counts_of
-  found_is = ap (λ (x : Counts). x.found) e
-
-  ip_is : c.ip ≡ pointer (entry_of image s)
-  unfolding counts_of
-  ip_is = ap (λ (x : Counts). x.ip) e
+  start_is = ap (λ (x : Counts). x.start) e
 
   native_is : c.native ≡ any_native (closed s.insts)
   unfolding counts_of
@@ -78,14 +64,14 @@ module _ (image : List ℕ) (c : Counts) (s : Scan) (e : c ≡ counts_of image s
   unfolding counts_of
   labels_is = ap (λ (x : Counts). x.labels) e
 
-  pub no_entry_lem : c.found ≡ false → rejects 7 ≡ finished image (goes s)
+  pub no_entry_lem : None ≡ c.start → rejects 7 ≡ finished image (goes s)
   unfolding finished
-  no_entry_lem h = sym (entered_none s _ (sym found_is ∙ h))
+  no_entry_lem h = sym (entered_none s _ (h ∙ start_is))
 
-  module _ (h : c.found ≡ true) (count : ℕ) (k : count ≡ cond c.halt c.insts (c.insts + 1)) where
-    there : finished image (goes s) ≡ checked (record { insts = closed s.insts; labels = s.labels; ip = pointer (entry_of image s) })
+  module _ (ip : ℕ) (h : Some ip ≡ c.start) (count : ℕ) (k : count ≡ cond c.halt c.insts (c.insts + 1)) where
+    there : finished image (goes s) ≡ checked (record { insts = closed s.insts; labels = s.labels; ip = ip })
     unfolding finished
-    there = entered_at s _ (sym found_is ∙ h)
+    there = entered_at s _ ip (h ∙ start_is)
 
     count_is : count ≡ length (closed s.insts)
     count_is = k ∙ long_is
@@ -98,6 +84,7 @@ module _ (image : List ℕ) (c : Counts) (s : Scan) (e : c ≡ counts_of image s
     unfolding checked
     has_native l n = rw there (simp (le-ltb _ _ (rw count_is at l), sym native_is ∙ n))
 
-    pub accepted_there : count ≤ inst_limit → c.native ≡ false → record { loading = Accepted c.ip count; labels = c.labels } ≡ checked_of (finished image (goes s))
+    pub accepted_there : count ≤ inst_limit → c.native ≡ false
+        → Ok (record { accepted = record { ip = ip; count = count }; labels = c.labels }) ≡ checked_of (finished image (goes s))
     unfolding checked checked_of
-    accepted_there l n = rw there (simp (le-ltb _ _ (rw count_is at l), sym native_is ∙ n, ip_is, count_is, labels_is))
+    accepted_there l n = rw there (simp (le-ltb _ _ (rw count_is at l), sym native_is ∙ n, count_is, labels_is))

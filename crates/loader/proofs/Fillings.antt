@@ -6,11 +6,14 @@ use mathlib.Core.List.{List, [], ◌∷◌, ◌++◌}
 use native.Mathlib.Omega.{arith}
 use lib.Dec.{ltb, leb}
 use lib.ListN.{length, length-append}
+use Rattle.std.specs.Prelude.{Result, Ok, Err, IsOk}
 use lib.Seq.{sets}
 use borrow.Author.Tests.{leb-false}
 use Rattle.inst.specs.declared.Inst.{Inst}
 use Rattle.inst.proofs.Laws.{by_test}
-use Rattle.inst_decode.specs.Decode.{refused, reads, from_bytes}
+use Rattle.inst_decode.specs.declared.DecodeError.{DecodeError}
+use Rattle.inst_decode.specs.declared.Decoded.{Decoded}
+use Rattle.inst_decode.specs.Decode.{refused, reads, number_of, means, from_bytes}
 use Rattle.inst_decode.proofs.Facts.{read_in_lem}
 use Rattle.machine.specs.Limits.{inst_limit, label_records}
 use Rattle.machine.specs.Load.{is_label, halt, Scan, Scanned, stops, goes, begin, scan_one, closed, Loaded, accepts, loads}
@@ -77,13 +80,17 @@ module _ (image xs : List ℕ) where
 
     module _ (h : at < length image) where
       -- a refusal is never met
-      pub filling_never : {A : Type 0} (count : ℕ) → Accepts image count → (m : ℕ) → from_bytes image at ≡ refused m → A
+      filling_never : {A : Type 0} (count : ℕ) → Accepts image count → (m : ℕ) → from_bytes image at ≡ refused m → A
       unfolding scan_one
       filling_never count a m e =
           let l = a.loaded in
           let r = f l a.is in
           let q : scan_one r.to (from_bytes image r.to.at) ≡ stops m = ap (λ (p : ℕ). scan_one r.to (from_bytes image p)) (sym r.at_is) ∙ ap (scan_one r.to) e in
           never_both m l (rest_stop image r.to (accepts l) (rw r.at_is at h) m r.rest q)
+
+      pub filling_ok : (count : ℕ) → Accepts image count → (r : Result Decoded DecodeError) → means r ≡ from_bytes image at → IsOk r
+      filling_ok count a (Ok d) e = refl
+      filling_ok count a (Err x) e = filling_never count a (number_of x) (sym e)
 
       module _ (i : Inst) (size : ℕ) (e : from_bytes image at ≡ reads i size) where
         by_scan : (l : Loaded) (r : Reached image xs l at n insts) (x : Scanned) → scan_one r.to (from_bytes image r.to.at) ≡ x → Took r.to i size x → Further image l r.to i size

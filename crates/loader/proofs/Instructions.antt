@@ -1,30 +1,20 @@
 -- The code's answer for one instruction more, by its tests. Assumes nothing.
 use Prim.Native.Nat.{ℕ, ◌+◌, ◌<◌, ◌≤◌}
-use mathlib.Core.Path.{◌≡◌, refl, ap, sym, ◌∙◌}
+use mathlib.Core.Path.{◌≡◌, ap, sym, ◌∙◌}
 use mathlib.Core.List.{List, [], ◌∷◌, ◌++◌}
 use native.Mathlib.Omega.{arith}
 use lib.ListN.{length}
+use Rattle.std.specs.Prelude.{Ok, Err}
 use borrow.Author.Tests.{eq-eqb, ne_eqb, le-leb, lt-leb}
 use Rattle.inst.specs.declared.Inst.{Inst}
 use Rattle.inst.specs.Records.{part, same}
-use Rattle.inst_decode.specs.declared.Decoded.{Decoded}
-use Rattle.inst_decode.specs.declared.Decoded.TheVariants as D
-use Rattle.inst_decode.specs.Decode.{refused, reads, means, from_bytes}
+use Rattle.inst_decode.specs.Decode.{refused, reads, from_bytes}
 use Rattle.inst_decode.proofs.Facts.{read_in_lem}
 use Rattle.machine.specs.Limits.{inst_limit, label_records}
 use Rattle.machine.specs.Load.{start_name, linked, Scan, scan_one}
-use Rattle.loader.specs.declared.Counts.{Counts}
-use Rattle.loader.specs.declared.Next.TheVariants.{Refused, Read}
-use Rattle.loader.specs.Reading.{number_in, counts_of, counted, labelled, next_of, Further}
+use Rattle.loader.specs.declared.reading.Counts.{Counts}
+use Rattle.loader.specs.Reading.{counts_of, counted, labelled, next_of, Further}
 use Rattle.loader.proofs.Scans.{counts_plain, counts_label}
-
--- what isn't read is refused
-pub refused_is : (d : Decoded) → ((i : Inst) (size : ℕ) → d ≡ D.Read i size → ⊥) → means d ≡ refused (number_in (means d))
-unfolding means number_in
-refused_is D.Undefined k = refl
-refused_is D.PastEnd k = refl
-refused_is D.BadName k = refl
-refused_is (D.Read i size) k = absurd (k i size refl)
 
 -- of a scan s, of which the code keeps c
 module _ (image : List ℕ) (c : Counts) (s : Scan) (e : c ≡ counts_of image s) where
@@ -40,7 +30,7 @@ module _ (image : List ℕ) (c : Counts) (s : Scan) (e : c ≡ counts_of image s
   unfolding counts_of
   labels_is = ap (λ (x : Counts). x.labels) e
 
-  pub next_refused : (n : ℕ) → from_bytes image c.at ≡ refused n → Refused n ≡ next_of image (scan_one s (from_bytes image s.at))
+  pub next_refused : (n : ℕ) → from_bytes image c.at ≡ refused n → Err n ≡ next_of image (scan_one s (from_bytes image s.at))
   unfolding next_of scan_one
   next_refused n f = simp (← at_is, f)
 
@@ -48,16 +38,16 @@ module _ (image : List ℕ) (c : Counts) (s : Scan) (e : c ≡ counts_of image s
     read_is : from_bytes image s.at ≡ reads i size
     read_is = ap (from_bytes image) (sym at_is) ∙ f
 
-    pub next_five : inst_limit ≤ c.insts → Refused 5 ≡ next_of image (scan_one s (from_bytes image s.at))
+    pub next_five : inst_limit ≤ c.insts → Err 5 ≡ next_of image (scan_one s (from_bytes image s.at))
     unfolding next_of scan_one
     next_five h = simp (read_is, le-leb inst_limit (length s.insts) (rw insts_is at h))
 
-    pub next_six : c.insts < inst_limit → i.typ ≡ 21 → label_records ≤ c.labels → Refused 6 ≡ next_of image (scan_one s (from_bytes image s.at))
+    pub next_six : c.insts < inst_limit → i.typ ≡ 21 → label_records ≤ c.labels → Err 6 ≡ next_of image (scan_one s (from_bytes image s.at))
     unfolding next_of scan_one
     next_six h k l =
         simp (read_is, lt-leb inst_limit (length s.insts) (rw insts_is at h), eq-eqb _ _ k, le-leb label_records (length s.labels) (rw labels_is at l))
 
-    pub next_plain : c.insts < inst_limit → (i.typ ≡ 21 → ⊥) → Read (counted c i.typ size) ≡ next_of image (scan_one s (from_bytes image s.at))
+    pub next_plain : c.insts < inst_limit → (i.typ ≡ 21 → ⊥) → Ok (counted c i.typ size) ≡ next_of image (scan_one s (from_bytes image s.at))
     unfolding next_of scan_one
     next_plain h k =
         simp (read_is, lt-leb inst_limit (length s.insts) (rw insts_is at h), ne_eqb _ _ k, counts_plain, e)
@@ -71,11 +61,11 @@ module _ (image : List ℕ) (c : Counts) (s : Scan) (e : c ≡ counts_of image s
         ∙ sym (counts_label image s.at s.insts s.labels i size z)
 
     pub next_label : 0 < length s.labels → c.insts < inst_limit → i.typ ≡ 21 → c.labels < label_records
-        → Read (labelled (counted c i.typ size) (same start_name (part image i.start i.len)) c.insts) ≡ next_of image (scan_one s (from_bytes image s.at))
+        → Ok (labelled (counted c i.typ size) (same start_name (part image i.start i.len)) c.insts) ≡ next_of image (scan_one s (from_bytes image s.at))
     unfolding next_of scan_one
     next_label z h k l =
         simp (read_is, lt-leb inst_limit (length s.insts) (rw insts_is at h), eq-eqb _ _ k, lt-leb label_records (length s.labels) (rw labels_is at l))
-        (ap Read (label_kept z))
+        (ap Ok (label_kept z))
 
 -- the bounds of what is kept then
 pub further_at : (image : List ℕ) (c : Counts) (i : Inst) (size : ℕ) → from_bytes image c.at ≡ reads i size → c.insts < inst_limit → (d : Counts) → d.at ≡ c.at + size

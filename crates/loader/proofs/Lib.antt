@@ -9,4 +9,3 @@ mod Fillings
 mod Links
 mod Seeks
 pub mod Passing
-mod LentBytes

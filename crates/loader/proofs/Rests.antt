@@ -6,6 +6,7 @@ use mathlib.Core.List.{List, [], ◌∷◌, ◌++◌}
 use native.Mathlib.Omega.{arith}
 use lib.Dec.{leb}
 use lib.ListN.{length, length-append}
+use Rattle.std.specs.Prelude.{Ok, Err}
 use borrow.Author.Tests.{lt-ltb, le-ltb, leb-false}
 use Rattle.inst.specs.declared.Inst.{Inst}
 use Rattle.inst.proofs.Laws.{by_test}
@@ -13,10 +14,8 @@ use Rattle.inst_decode.specs.Decode.{Answer, refused, reads, from_bytes}
 use Rattle.machine.specs.Limits.{image_limit, inst_limit, label_records}
 use Rattle.machine.specs.declared.Label.{Label}
 use Rattle.machine.specs.Load.{is_label, linked, Scan, Scanned, stops, goes, begin, scan_one, and_then, scan, Load, rejects, finished, loads}
-use Rattle.loader.specs.declared.Counts.{Counts}
-use Rattle.loader.specs.declared.Next.{Next}
-use Rattle.loader.specs.declared.Next.TheVariants.{Refused, Read}
-use Rattle.loader.specs.Reading.{counts_of, next_of, Further, Ahead}
+use Rattle.loader.specs.declared.reading.Counts.{Counts}
+use Rattle.loader.specs.Reading.{counts_of, next_of, Further}
 use Rattle.loader.proofs.Scans.{last_inst, snoc_last}
 
 -- the image from s on gives l
@@ -57,10 +56,6 @@ grown s to (reads i size) q =
     (λ e. goes_where s to i size _ (rw e) (λ f. f)))
     q
 
-pub further : (size : ℕ) (c : Counts) (r : Next) (d : Counts) → Ahead size c r → r ≡ Read d → Further size c d
-unfolding Ahead
-further size c r d a e = rw e at a
-
 -- the label table keeps its head
 head_kept : (b : Bool) (i : Inst) (n : ℕ) (ls : List Label) → 0 < length ls → 0 < length (cond b (linked i n ls) ls)
 unfolding linked
@@ -75,15 +70,15 @@ module _ (image : List ℕ) where
     pub goes_to : scan_one s (from_bytes image s.at) ≡ goes to
     pub counts_are : d ≡ counts_of image to
 
-  went' : (s : Scan) (d : Counts) (x : Scanned) → scan_one s (from_bytes image s.at) ≡ x → Read d ≡ next_of image x → Went s d
+  went' : (s : Scan) (d : Counts) (x : Scanned) → scan_one s (from_bytes image s.at) ≡ x → Ok d ≡ next_of image x → Went s d
   unfolding next_of
-  went' s d (stops n) e q = absurd (let z : ◌≡◌ {A = ℕ} 0 1 = cc in omega arith)
+  went' s d (stops n) e q = cc
   went' s d (goes t) e q = record { to = t; goes_to = e; counts_are = cc }
 
-  went : (s : Scan) (d : Counts) → Read d ≡ next_of image (scan_one s (from_bytes image s.at)) → Went s d
+  went : (s : Scan) (d : Counts) → Ok d ≡ next_of image (scan_one s (from_bytes image s.at)) → Went s d
   went s d q = went' s d _ refl q
 
-  pub stopped : (n : ℕ) (x : Scanned) → Refused n ≡ next_of image x → x ≡ stops n
+  pub stopped : (n : ℕ) (x : Scanned) → Err n ≡ next_of image x → x ≡ stops n
   unfolding next_of
   stopped n (stops m) q = cc
   stopped n (goes t) q = cc
@@ -133,7 +128,7 @@ module _ (image : List ℕ) where
     inside : s.at < length image
     inside = rw (at_of c s e) at h
 
-    pub passes : (d : Counts) → c.at < d.at → Read d ≡ next_of image (scan_one s (from_bytes image s.at)) → Passes l c d s
+    pub passes : (d : Counts) → c.at < d.at → Ok d ≡ next_of image (scan_one s (from_bytes image s.at)) → Passes l c d s
     passes d m q =
         let w = went s d q in
         let i = last_inst w.to.insts in
@@ -146,7 +141,7 @@ module _ (image : List ℕ) where
           rest = rest_next s l inside w.to r w.goes_to k;
         }
 
-    pub refuses_there : (n : ℕ) → Refused n ≡ next_of image (scan_one s (from_bytes image s.at)) → rejects n ≡ l
+    pub refuses_there : (n : ℕ) → Err n ≡ next_of image (scan_one s (from_bytes image s.at)) → rejects n ≡ l
     refuses_there n q = rest_stop s l inside n r (stopped n _ q)
 
   pub ends_there : (l : Load) (c : Counts) (s : Scan) → c ≡ counts_of image s → Rest image s l → length image ≤ c.at → finished image (goes s) ≡ l
@@ -168,7 +163,7 @@ module _ (image : List ℕ) where
       record { reached = begin; counts_are = e; has_head = omega arith; rest = rest_begin image; fit = omega arith }
 
   module _ (c : Counts) (k : Checking image c) (h : c.at < length image) where
-    pub checking_next : (d : Counts) → Further (length image) c d → Read d ≡ next_of image (scan_one k.reached (from_bytes image k.reached.at))
+    pub checking_next : (d : Counts) → Further (length image) c d → Ok d ≡ next_of image (scan_one k.reached (from_bytes image k.reached.at))
         → Checking image d
     checking_next d f q =
         let p = passes image _ c k.reached k.counts_are k.has_head k.rest h d f.moves q in

@@ -6,11 +6,12 @@ use mathlib.Core.List.{List, [], ◌∷◌, ◌++◌}
 use native.Mathlib.Nat.{suc-add}
 use native.Mathlib.Omega.{arith}
 use lib.ListN.{length, length-append}
+use Rattle.std.specs.Prelude.{Some}
 use Rattle.inst.specs.declared.Inst.{Inst}
 use Rattle.inst.specs.Records.{part, same}
 use Rattle.machine.specs.declared.Label.{Label}
 use Rattle.machine.specs.Load.{halt, is_native, is_halt, name_of, start_name, linked, Scan, Entry, no_entry, entry, last_of, any_native, last_is_halt}
-use Rattle.loader.specs.Reading.{is_found, pointer, counts_of, counted, labelled}
+use Rattle.loader.specs.Reading.{target_of, counts_of, counted, labelled}
 
 or_assoc : (a b c : Bool) → (a || (b || c)) ≡ ((a || b) || c)
 or_assoc true b c = refl
@@ -55,15 +56,10 @@ module _ (image : List ℕ) where
   snoc_entry [] e l = refl
   snoc_entry (k ∷ ls) e l = snoc_entry ls _ l
 
-  found_more : (b : Bool) (n : ℕ) (e : Entry) → is_found (cond b (entry n) e) ≡ (b || is_found e)
-  unfolding is_found
-  found_more true n e = refl
-  found_more false n e = refl
-
-  pointer_more : (b : Bool) (n : ℕ) (e : Entry) → pointer (cond b (entry n) e) ≡ cond b n (pointer e)
-  unfolding pointer
-  pointer_more true n e = refl
-  pointer_more false n e = refl
+  target_more : (b : Bool) (n : ℕ) (e : Entry) → target_of (cond b (entry n) e) ≡ cond b (Some n) (target_of e)
+  unfolding target_of
+  target_more true n e = refl
+  target_more false n e = refl
 
   -- an instruction that is no label
   pub counts_plain : (s : Scan) (i : Inst) (size : ℕ)
@@ -79,4 +75,4 @@ module _ (image : List ℕ) where
   counts_label at is [] i size h = absurd (omega arith)
   counts_label at is (k ∷ ls) i size h =
       let l : Label = record { start = i.start; len = i.len; target = length is; next = k.next } in
-      simp (snoc_long, snoc_native, snoc_halts, snoc_entry ls no_entry l, found_more, pointer_more, suc-add)
+      simp (snoc_long, snoc_native, snoc_halts, snoc_entry ls no_entry l, target_more, suc-add)

@@ -3,22 +3,22 @@ use Prim.Native.Nat.{ℕ, suc, ◌+◌, ◌*◌, ◌<◌, ◌≤◌}
 use mathlib.Core.Path.{◌≡◌, ap, sym, ◌∙◌}
 use mathlib.Core.Bool.{Bool, true, false, cond}
 use mathlib.Core.List.{List, [], ◌∷◌, ◌++◌}
+use native.Mathlib.Nat.{zero-add}
 use native.Mathlib.Omega.{arith}
 use lib.Dec.{ltb}
-use lib.ListN.{length, get_or, length-append}
+use lib.ListN.{length, get_or, set, length-append}
 use lib.Seq.{sets, length-sets}
 use borrow.Author.Tests.{lt-ltb, le-ltb}
 use Rattle.inst.specs.declared.Inst.{Inst}
 use Rattle.inst.proofs.Laws.{sets_more}
 use Rattle.machine.specs.declared.Label.{Label}
-use Rattle.machine.specs.Load.{halt, linked, last_is_halt, closed}
+use Rattle.machine.specs.Load.{halt, head, linked, last_is_halt, closed}
 use Rattle.tables.specs.Tables.{numbers_in, number_at, bytes_of, numbers_of, inst_numbers, label_numbers, inst_bytes, label_bytes}
-use Rattle.tables.proofs.Numbers.{labels_append, sets_rest}
+use Rattle.tables.proofs.Numbers.{labels_append, sets_behind, sets_rest}
 use Rattle.tables.proofs.Bytes.{length_numbers_in, length_bytes, bytes_append, numbers_sets, sets_over}
 use Rattle.tables.proofs.Laws.{insts_append, length_insts, length_labels}
-use Rattle.loader.specs.declared.Linking.{Linking}
-use Rattle.loader.specs.Linking.{linked_at}
-use Rattle.loader.proofs.Passing.{linked_on}
+use Rattle.loader.specs.declared.labels.Linking.{Linking}
+use Rattle.loader.specs.Linking.{linked_on}
 
 -- a table keeps its length
 pub put_long : (ys ys' vs : List ℕ) (i : ℕ) → ys' ≡ sets ys i vs → length ys' ≡ length ys
@@ -69,10 +69,15 @@ next_there xs vs a b c d h =
     let l = length_numbers_in xs in
     ap (λ (l : List ℕ). get_or l 3 0) (numbers_sets (a ∷ b ∷ c ∷ d ∷ vs) xs 0) ∙ fourth (numbers_in xs) vs a b c d (omega arith)
 
+-- a label record stored, and the head
+abbrev pub linked_at : List ℕ → Linking → List ℕ
+linked_at labels l =
+    sets (sets labels (l.index * 32) (bytes_of (l.start ∷ l.len ∷ l.target ∷ number_at labels 3 ∷ []))) 0 (bytes_of (0 ∷ 0 ∷ 0 ∷ l.index ∷ []))
+
 -- a label more, or the head
 pub label_more : (xs ys : List ℕ) (p : Linking) (ls : List Label) → 32 ≤ length xs → p.index ≡ length ls → ys ≡ sets xs 0 (label_bytes ls)
     → linked_at ys p ≡ sets xs 0 (label_bytes (linked_on p ls))
-unfolding linked_at linked_on linked numbers_of bytes_of
+unfolding linked_on linked numbers_of bytes_of
 label_more xs ys p [] z k e = rw (k, e) (head_over xs [] p.start p.len p.target (number_at xs 3) 0)
 label_more xs ys p (h ∷ ls) z k e =
     let new : Label = record { start = p.start; len = p.len; target = p.target; next = h.next } in
@@ -80,3 +85,14 @@ label_more xs ys p (h ∷ ls) z k e =
     let s : sets ys (suc (length ls) * 32) (bytes_of (label_numbers new)) ≡ sets xs 0 (bytes_of (numbers_of label_numbers (h ∷ ls) ++ label_numbers new)) =
     behind xs ys (label_bytes (h ∷ ls)) (bytes_of (label_numbers new)) (suc (length ls)) e (length_labels (h ∷ ls)) ∙ ap (sets xs 0) (sym (bytes_append (numbers_of label_numbers (h ∷ ls)) (label_numbers new))) in
     rw (k, n, s, labels_append ls (new ∷ [])) (head_over xs (numbers_of label_numbers ls ++ label_numbers new) h.start h.len h.target h.next (suc (length ls)))
+
+-- the same where the table is lent as records
+pub record_more : (xs ys : List Label) (p : Linking) (ls : List Label) → 0 < length xs → p.index ≡ length ls → ys ≡ sets xs 0 ls
+    → set (set ys p.index (record { start = p.start; len = p.len; target = p.target; next = (get_or ys 0 (head 0)).next })) 0 (head p.index) ≡ sets xs 0 (linked_on p ls)
+unfolding linked_on linked
+record_more [] ys p ls z k e = absurd (omega arith)
+record_more (x ∷ xs) ys p [] z k e = rw (k, e)
+record_more (x ∷ xs) ys p (h ∷ ls) z k e =
+    let new : Label = record { start = p.start; len = p.len; target = p.target; next = h.next } in
+    let s : sets (sets xs 0 ls) (length ls) (new ∷ []) ≡ sets xs 0 (ls ++ (new ∷ [])) = ap (λ (n : ℕ). sets (sets xs 0 ls) n (new ∷ [])) (sym (zero-add (length ls))) ∙ sets_more ls xs (new ∷ []) 0 in
+    rw (k, e ∙ sets_behind h xs ls 0) (ap (λ (l : List Label). head (suc (length ls)) ∷ l) s ∙ sym (sets_behind (head (suc (length ls))) xs (ls ++ (new ∷ [])) 0))

@@ -1,3 +1,5 @@
+pub mod Refusals
 pub mod Loading
 pub mod Reading
 pub mod Linking
+pub mod Slots

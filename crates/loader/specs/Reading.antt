@@ -1,25 +1,13 @@
 -- What the code keeps of document 01's scan, and its answer for one instruction more.
-use Rattle.std.specs.Prelude.{ℕ, ◌+◌, ◌≤◌, ◌<◌, ◌≡◌, Bool, true, false, cond, ◌||◌, List, eqb, length, drop}
-use Rattle.inst_decode.specs.Decode.{Answer, refused, reads}
+use Rattle.std.specs.Prelude.{ℕ, ◌+◌, ◌≤◌, ◌<◌, ◌≡◌, Bool, cond, ◌||◌, Option, Some, None, Result, Ok, Err, List, eqb, length, drop}
 use Rattle.machine.specs.Limits.{inst_limit}
-use Rattle.machine.specs.Load.{halt, start_name, Scan, Scanned, stops, goes, Entry, no_entry, entry, last_of, any_native, last_is_halt}
-use Rattle.loader.specs.declared.Counts.{Counts}
-use Rattle.loader.specs.declared.Next.{Next}
-use Rattle.loader.specs.declared.Next.TheVariants.{Refused, Read}
+use Rattle.machine.specs.Load.{start_name, Scan, Scanned, stops, goes, Entry, no_entry, entry, last_of, any_native, last_is_halt}
+use Rattle.loader.specs.declared.reading.Counts.{Counts}
 
--- the number of a refusal
-unfoldable pub number_in : Answer → ℕ
-number_in (refused n) = n
-number_in (reads i size) = 0
-
--- an entry as a test and a pointer
-unfoldable pub is_found : Entry → Bool
-is_found no_entry = false
-is_found (entry t) = true
-
-unfoldable pub pointer : Entry → ℕ
-pointer no_entry = 0
-pointer (entry t) = t
+-- an entry as the code keeps it
+unfoldable pub target_of : Entry → Option ℕ
+target_of no_entry = None
+target_of (entry t) = Some t
 
 -- the entry as far as labels were read
 abbrev pub entry_of : List ℕ → Scan → Entry
@@ -31,8 +19,7 @@ counts_of image s =
       at = s.at;
       insts = length s.insts;
       labels = length s.labels;
-      found = is_found (entry_of image s);
-      ip = pointer (entry_of image s);
+      start = target_of (entry_of image s);
       native = any_native s.insts;
       halt = last_is_halt s.insts;
     }
@@ -44,8 +31,7 @@ counted c typ size =
       at = c.at + size;
       insts = c.insts + 1;
       labels = c.labels;
-      found = c.found;
-      ip = c.ip;
+      start = c.start;
       native = c.native || eqb typ 37;
       halt = eqb typ 69;
     }
@@ -56,16 +42,15 @@ labelled c start index =
       at = c.at;
       insts = c.insts;
       labels = c.labels + 1;
-      found = start || c.found;
-      ip = cond start index c.ip;
+      start = cond start (Some index) c.start;
       native = c.native;
       halt = c.halt;
     }
 
--- the code's answer for one instruction more
-unfoldable pub next_of : List ℕ → Scanned → Next
-next_of image (stops n) = Refused n
-next_of image (goes s) = Read (counts_of image s)
+-- the code's answer for one instruction more, with the number for the refusal
+unfoldable pub next_of : List ℕ → Scanned → Result Counts ℕ
+next_of image (stops n) = Err n
+next_of image (goes s) = Ok (counts_of image s)
 
 -- the bounds that hold whatever was kept before: `size` is the image's
 pub record Further (size : ℕ) (c d : Counts) : Type 0 where
@@ -73,7 +58,3 @@ pub record Further (size : ℕ) (c d : Counts) : Type 0 where
   pub moves : c.at < d.at
   pub one_more : d.insts ≡ c.insts + 1
   pub insts_fit : d.insts ≤ inst_limit
-
-unfoldable pub Ahead : ℕ → Counts → Next → Type 0
-Ahead size c (Refused n) = Unit {0}
-Ahead size c (Read d) = Further size c d

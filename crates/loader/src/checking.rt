@@ -1,90 +1,44 @@
 // The first pass: every refusal, the pointer and the count. It writes nothing.
-ghost use Rattle.std.specs.Prelude.{◌≡◌, cond, List, ℕ, ◌+◌, ◌≤◌};
+ghost use Rattle.std.specs.Prelude.{◌≡◌, List, ℕ, ◌≤◌};
 ghost use Rattle.machine.specs.Limits.{inst_limit};
-ghost use Rattle.machine.specs.Load.{Scan, goes, rejects, loads, finished};
+ghost use Rattle.machine.specs.Load.{Scan, goes, loads, finished};
+ghost use Rattle.loader.specs.Refusals.{numbered};
 ghost use Rattle.loader.specs.Reading.{counts_of};
 ghost use Rattle.loader.specs.Loading.{checked_of};
 
-use crate::reading::{first, next_inst};
-use crate::{Checked, Counts, IMAGE_LIMIT, INST_LIMIT, Loading, Next};
-use inst::form_table;
-
-// The instructions with an appended HALT.
-fn closed_count(insts: usize, halt: bool) -> usize
-    requires { insts ≤ inst_limit }
-    ensures { result ≡ cond halt insts (insts + 1) }
-{
-    if halt { insts } else { insts + 1 }
-}
-
-pub fn refused(n: u8) -> Checked
-    ensures { result ≡ checked_of (rejects n) }
-{
-    Checked {
-        loading: Loading::Refused(n),
-        labels: 0,
-    }
-}
+use crate::reading::{Counts, next_inst};
+use crate::{Accepted, Checked, IMAGE_LIMIT, INST_LIMIT, Refusal};
 
 // After the last byte: 7; HALT is appended unless the last instruction is HALT, 5 again; 8.
-fn finish(c: Counts) -> Checked
+fn finish(c: Counts) -> Result<Checked, Refusal>
     requires { c.insts ≤ inst_limit }
-    ensures { (image : List ℕ) (s : Scan) → c ≡ counts_of image s → result ≡ checked_of (finished image (goes s)) }
+    ensures { (image : List ℕ) (s : Scan) → c ≡ counts_of image s → numbered result ≡ checked_of (finished image (goes s)) }
 {
-    if !c.found {
-        return refused(7);
-    }
-    let count = closed_count(c.insts, c.halt);
+    let ip = c.start.ok_or(Refusal::NoStart)?;
+    let count = if c.halt { c.insts } else { c.insts + 1 };
     if count > INST_LIMIT {
-        return refused(5);
+        return Err(Refusal::TooManyInstructions);
     }
     if c.native {
-        return refused(8);
+        return Err(Refusal::Native);
     }
-    Checked {
-        loading: Loading::Accepted {
-            ip: c.ip,
-            count: count,
-        },
+    Ok(Checked {
+        accepted: Accepted { ip, count },
         labels: c.labels,
-    }
+    })
 }
 
-// The same numbers, each by itself: copied as a whole out of an answer they go through memory, and the processor waits for it
-// (12 instead of 3 ns an instruction).
-fn anew(c: Counts) -> Counts
-    ensures { result ≡ c }
-{
-    Counts {
-        at: c.at,
-        insts: c.insts,
-        labels: c.labels,
-        found: c.found,
-        ip: c.ip,
-        native: c.native,
-        halt: c.halt,
-    }
-}
-
-// What an image gives, whatever tables are lent.
-pub fn check(image: &[u8]) -> Checked
-    ensures { result ≡ checked_of (loads image.now) }
+// What an image gives, whatever tables are lent. Here and in `fill` the loop steps by each instruction's size: an iterator of
+// decoded instructions would keep image and offset in a struct with laws of its own, for two loops of a line each.
+pub fn check(image: &[u8]) -> Result<Checked, Refusal>
+    ensures { numbered result ≡ checked_of (loads image.now) }
 {
     if image.len() > IMAGE_LIMIT {
-        return refused(1);
+        return Err(Refusal::ImageTooLong);
     }
-    let forms = form_table();
-    let mut c = first();
+    let mut c = Counts::first();
     while c.at < image.len() {
-        let did = next_inst(&forms, image, c);
-        match did {
-            Next::Refused(n) => {
-                return refused(n);
-            }
-            Next::Read(d) => {
-                c = anew(d);
-            }
-        }
+        c = next_inst(image, c)?;
     }
     finish(c)
 }

@@ -1,56 +1,51 @@
-// The pass over a filled instruction table that links its labels: which label record comes next, and the link itself.
-// Crate label_loader makes the same pass with a label table of another kind.
-ghost use Rattle.std.specs.Prelude.{◌≡◌, ◌+◌, ◌*◌, ◌^◌, ◌≤◌, ◌<◌, length, take, drop};
-ghost use Rattle.tables.specs.Tables.{insts_of};
-ghost use Rattle.loader.specs.Linking.{no_link, head_link, label_link, next_link, Covers, linked_at};
+// The pass over a filled instruction table that links its labels: which label record comes next.
+ghost use Rattle.std.specs.Prelude.{◌≡◌, ◌+◌, ◌^◌, ◌<◌, take, drop};
+ghost use Rattle.tables.specs.Tables.{insts_of, label};
+ghost use Rattle.loader.specs.Linking.{head_link, label_link, next_link, Covers};
 
-use crate::{Checked, Linking, Loading};
+use crate::Checked;
 use inst::{Inst, ops};
-use tables::{inst_at, number_at, put};
+use machine::Label;
+use tables::{number_at, record_at};
 
-// A label record, linked first: it leads to what the head led to, and the head to it. Index 0 makes the head itself, zero.
-// Only from_binary calls it.
-pub fn link(labels: &mut [u8], l: Linking)
-    requires { l.index * 32 + 32 ≤ length labels.old }
-    ensures { labels.new ≡ linked_at labels.old l }
-{
-    let next = number_at(labels, 3);
-    put(labels, l.index, l.start, l.len, l.target, next);
-    put(labels, 0, 0, 0, 0, l.index as u64);
+// A label record to be linked: its index, name and target; with how many instructions were passed when it was found, of how
+// many; and how many label records there are.
+#[derive(Clone, Copy)]
+pub struct Linking {
+    pub index: usize,
+    pub start: u64,
+    pub len: u64,
+    pub target: u64,
+    pub passed: usize,
+    pub count: usize,
+    pub labels: usize,
 }
 
-// Nothing is left to link.
-fn no_link() -> Linking
-    ensures { result ≡ no_link }
-{
-    Linking {
-        on: false,
-        index: 0,
-        start: 0,
-        len: 0,
-        target: 0,
-        passed: 0,
-        count: 0,
-        labels: 0,
+impl Linking {
+    // The label record, which leads to the record `next`.
+    pub fn record(self, next: u64) -> Label
+        ensures { result ≡ label self.start self.len self.target next }
+    {
+        Label {
+            start: self.start,
+            len: self.len,
+            target: self.target,
+            next,
+        }
     }
 }
 
-// The start of the pass: the head, where the load was accepted.
+// The start of the pass: the head.
 pub fn head_link(checked: Checked) -> Linking
     ensures { result ≡ head_link checked }
 {
-    let loading = checked.loading;
-    let Loading::Accepted { ip: _, count } = loading else {
-        return no_link();
-    };
     Linking {
-        on: true,
         index: 0,
         start: 0,
         len: 0,
         target: 0,
         passed: 0,
-        count: count,
+        count: checked.accepted.count,
         labels: checked.labels,
     }
 }
@@ -61,32 +56,28 @@ fn label_link(l: Linking, n: usize, i: Inst) -> Linking
     ensures { result ≡ label_link l n i }
 {
     Linking {
-        on: true,
         index: l.index + 1,
         start: i.start,
         len: i.len,
         target: n as u64,
         passed: n + 1,
-        count: l.count,
-        labels: l.labels,
+        ..l
     }
 }
 
-// The next LABEL of those not yet passed. Behind the last label record nothing is read. Only our own crates call it, with the
-// table that was filled.
-pub fn next_link(insts: &[u8], l: Linking) -> Linking
+// The next LABEL of those not yet passed. Behind the last label record nothing is read. Only `load` calls it, with the table
+// that was filled.
+pub fn next_link(insts: &[u8], l: Linking) -> Option<Linking>
     requires { Covers insts.now l }
     ensures { result ≡ next_link l l.passed (drop l.passed (take l.count (insts_of insts.now))) }
 {
     if l.index + 1 == l.labels {
-        return no_link();
+        return None;
     }
-    let mut n = l.passed;
-    while n < l.count {
+    for n in l.passed..l.count {
         if number_at(insts, n * 4) == ops::LABEL {
-            return label_link(l, n, inst_at(insts, n));
+            return Some(label_link(l, n, record_at(insts, n)));
         }
-        n += 1;
     }
-    no_link()
+    None
 }

@@ -4,17 +4,23 @@
 #![tactic(auto)]
 
 ghost use Rattle.std.specs.Prelude.{◌≡◌};
-ghost use Rattle.loader.specs.Loading.{fresh_at, FromBinary};
+ghost use Rattle.machine.specs.Load.{load};
+ghost use Rattle.tables.specs.Tables.{insts_of};
+ghost use Rattle.loader.specs.Loading.{fresh_at, FromBinary, LoadTables};
 
 mod checking;
 mod filling;
 mod labels;
 mod reading;
+mod refusal;
+mod slots;
 
-pub use filling::load_insts;
-use labels::link;
-pub use labels::{head_link, next_link};
+use filling::load_insts;
+pub use labels::Linking;
+use labels::{head_link, next_link};
 use machine::{CALL_LIMIT, MEMORY_SIZE, Machine, STACK_LIMIT};
+pub use refusal::Refusal;
+pub use slots::LabelSlot;
 use tables::RECORD;
 
 // The limits of document 01: an image's bytes, its instructions, and the records of a label table.
@@ -29,52 +35,17 @@ pub const INST_BYTES: usize = INST_LIMIT * RECORD;
 
 pub const LABEL_BYTES: usize = LABEL_RECORDS * RECORD;
 
-// What a load answers: a number, or the pointer and the count. `fresh` makes the machine of the pointer: an enum that holds
-// the machine's arrays can't be proved from its code.
+// What an accepted image begins with: the pointer and the count. `fresh` makes the machine of the pointer.
 #[derive(Clone, Copy)]
-pub enum Loading {
-    Refused(u8),
-    Accepted { ip: usize, count: usize },
+pub struct Accepted {
+    pub ip: usize,
+    pub count: usize,
 }
 
-// The same, and how many label records an image has, the head counted: 0 with a number.
+// The same, and how many label records the image has, the head counted.
 #[derive(Clone, Copy)]
 pub struct Checked {
-    pub loading: Loading,
-    pub labels: usize,
-}
-
-// What is kept of an image that was read so far: the next byte, the instructions, the label records with their head, whether
-// `_start` was defined and its last target, whether there was a NATIVE, and whether the last instruction is HALT.
-#[derive(Clone, Copy)]
-pub struct Counts {
-    pub at: usize,
-    pub insts: usize,
-    pub labels: usize,
-    pub found: bool,
-    pub ip: usize,
-    pub native: bool,
-    pub halt: bool,
-}
-
-// One instruction more: a number, or what is kept then.
-#[derive(Clone, Copy)]
-pub enum Next {
-    Refused(u8),
-    Read(Counts),
-}
-
-// Where the linking of the labels stands: whether a label record is to be linked, its index, name and target; the
-// instructions passed so far, of how many; and how many label records there are.
-#[derive(Clone, Copy)]
-pub struct Linking {
-    pub on: bool,
-    pub index: usize,
-    pub start: u64,
-    pub len: u64,
-    pub target: u64,
-    pub passed: usize,
-    pub count: usize,
+    pub accepted: Accepted,
     pub labels: usize,
 }
 
@@ -89,20 +60,31 @@ pub fn fresh(ip: usize) -> Machine
         call_height: 0,
         memory: [0; MEMORY_SIZE],
         flags: 0,
-        ip: ip,
+        ip,
         halted: false,
     }
 }
 
-// The call: only this function and `link` hold the label table.
-pub fn from_binary(image: &[u8], insts: &mut [u8], labels: &mut [u8]) -> Loading
+// A load into a label table of bytes or of records. Only this function and `link` hold the label table.
+pub fn load<S: LabelSlot>(
+    image: &[u8],
+    insts: &mut [u8],
+    labels: &mut [S],
+) -> Result<Accepted, Refusal>
+    ensures { LoadTables S.slots (load image.now (insts_of insts.old) (S.records labels.old)) insts.old labels.old result insts.new labels.new }
+{
+    let checked = load_insts(image, insts, S::count(labels))?;
+    let mut next = Some(head_link(checked));
+    while let Some(l) = next {
+        S::link(labels, l);
+        next = next_link(insts, l);
+    }
+    Ok(checked.accepted)
+}
+
+// The call, with both tables lent as bytes.
+pub fn from_binary(image: &[u8], insts: &mut [u8], labels: &mut [u8]) -> Result<Accepted, Refusal>
     ensures { FromBinary image.now insts.old labels.old result insts.new labels.new }
 {
-    let checked = load_insts(image, insts, labels.len() / RECORD);
-    let mut l = head_link(checked);
-    while l.on {
-        link(labels, l);
-        l = next_link(insts, l);
-    }
-    checked.loading
+    load(image, insts, labels)
 }

@@ -12,40 +12,38 @@ use Rattle.inst.proofs.Laws.{never}
 use Rattle.machine.specs.declared.Label.{Label}
 use Rattle.machine.specs.Load.{name_of, head}
 use Rattle.machine.specs.Lookup.{Program, ill_chain, no_label, leads_to, label_at, in_program, walk, lookup, lookup_from}
-use Rattle.step_core.specs.declared.LookedUp.{LookedUp}
-use Rattle.step_core.specs.declared.LookedUp.TheVariants.{NotAsked, NoLabel, Target}
-use Rattle.step_core.specs.Parts.{found_of, is_asked}
-use Rattle.lookup.specs.declared.Walk.{Walk}
-use Rattle.lookup.specs.Walks.{Finds, GoesOn, Walks}
+use Rattle.std.specs.Prelude.{Option, Some, None, Ok, Err}
+use Rattle.step_core.specs.declared.LookupError.TheVariants.{NoLabel}
+use Rattle.step_core.specs.Parts.{found_of, LookedUp}
+use Rattle.lookup.specs.Walks.{Finds}
 
 -- a label's target, if it is in the program
-program_by : (b : Bool) (t : ℕ) → (is_asked (cond b (Target t) NoLabel) ≡ true) × (found_of (cond b (Target t) NoLabel) ≡ cond b (leads_to t) no_label)
-program_by true t = (refl, refl)
-program_by false t = (refl, refl)
+program_by : (b : Bool) (t : ℕ) → found_of (cond b (Ok t) (Err NoLabel)) ≡ cond b (leads_to t) no_label
+program_by true t = refl
+program_by false t = refl
 
-module _ (t count : ℕ) {r : LookedUp} (e : r ≡ cond (ltb t count) (Target t) NoLabel) where
-  pub program_asked : is_asked r ≡ true
-  program_asked = ap is_asked e ∙ (program_by (ltb t count) t).0
-
-  pub program_found : found_of r ≡ cond (ltb t count) (leads_to t) no_label
-  program_found = ap found_of e ∙ (program_by (ltb t count) t).1
+pub program_found : (t count : ℕ) {r : LookedUp} → r ≡ cond (ltb t count) (Ok t) (Err NoLabel) → found_of r ≡ cond (ltb t count) (leads_to t) no_label
+program_found t count e = ap found_of e ∙ program_by (ltb t count) t
 
 abbrev name : Program → ℕ → ℕ → List ℕ
 name p start len = part p.image start len
 
--- a walk that is over
-module _ (p : Program) (start len : ℕ) (r : LookedUp) where
-  pub over : Finds p start len r → Walks p start len (record { on = false; at = 0; bound = 0; answer = r })
-  over f =
-      record { lies = λ e. never e; inside = λ e. never e; at_head = λ e. never e; further = λ e. never e; answered = λ e. f }
+-- the two answers of a lookup
+module _ (p : Program) (start len : ℕ) where
+  pub no_name : name_in p.image start len ≡ false → Finds p start len None
+  no_name n = record { outside = λ e. refl; some = λ e. never (sym n ∙ e); found = λ e. never (sym n ∙ e) }
 
-  pub no_name : name_in p.image start len ≡ false → r ≡ NotAsked → Finds p start len r
-  no_name n z = record { outside = λ e. z; some = λ e. never (sym n ∙ e); found = λ e. never (sym n ∙ e) }
+  pub finds : name_in p.image start len ≡ true → (found : LookedUp) → found_of found ≡ lookup_from p (name p start len) p.labels → Finds p start len (Some found)
+  unfolding lookup
+  finds n found e = record { outside = λ q. never (sym q ∙ n); some = λ q. refl; found = λ q typ val. e }
 
-  module _ (n : name_in p.image start len ≡ true) (some : is_asked r ≡ true) where
-    pub finds : found_of r ≡ lookup_from p (name p start len) p.labels → Finds p start len r
-    unfolding lookup
-    finds e = record { outside = λ q. never (sym q ∙ n); some = λ q. some; found = λ q typ val. e }
+-- the walk goes on to the index i, which must be below `bound`
+pub record GoesOn (p : Program) (start len bound i : ℕ) : Type 0 where
+  pub fuel : ℕ
+  pub enough : bound ≤ fuel
+  pub some : 0 < bound
+  pub inside : bound ≤ length p.labels
+  pub is : walk fuel p (part p.image start len) bound i ≡ lookup_from p (part p.image start len) p.labels
 
 -- from one record on
 module _ (p : Program) (start len bound i : ℕ) (g : GoesOn p start len bound i) where
@@ -110,66 +108,17 @@ module _ (p : Program) (start len : ℕ) where
       let q : (eqb x.start 0 && eqb x.len 0 && eqb x.target 0) ≡ b = rw e t in
       rw q (ap (λ (y : Label). cond b (walk (length p.labels) p (name p start len) (length p.labels) y.next) ill_chain) e)
 
--- the record l, which the walk w is at
-module _ (p : Program) (start len : ℕ) (w : Walk) (l : Label) (e : label_at p w.at ≡ l) (o : w.on ≡ true) (inv : Walks p start len w) where
-  pub some_bound : 0 < w.bound
-  some_bound = by (eqb w.at 0) refl
-    where
-      by : (b : Bool) → eqb w.at 0 ≡ b → 0 < w.bound
-      by true q = omega (arith, inv.inside o, inv.at_head o (eqb-true w.at 0 q))
-      by false q = omega (arith, (inv.further o (eqb-false w.at 0 q)).0, eqb-false w.at 0 q)
+  -- the head l
+  module _ (some : 0 < length p.labels) (l : Label) (e : label_at p 0 ≡ l) where
+    pub head_ill : (eqb l.start 0 && eqb l.len 0 && eqb l.target 0) ≡ false → lookup_from p (name p start len) p.labels ≡ ill_chain
+    head_ill t = from_head l false p.labels e some t
 
-  module _ (z : w.at ≡ 0) where
-    headed : (b : Bool) → (eqb l.start 0 && eqb l.len 0 && eqb l.target 0) ≡ b →
-        lookup_from p (name p start len) p.labels ≡ cond b (walk (length p.labels) p (name p start len) (length p.labels) l.next) ill_chain
-    headed b t =
-        let q : get_or p.labels 0 (head 0) ≡ l = rw z at e in
-        from_head p start len l b p.labels q (omega (arith, inv.inside o)) t
-
-    pub head_on : (eqb l.start 0 && eqb l.len 0 && eqb l.target 0) ≡ true → GoesOn p start len w.bound l.next
+    pub head_on : (eqb l.start 0 && eqb l.len 0 && eqb l.target 0) ≡ true → GoesOn p start len (length p.labels) l.next
     head_on t =
-        rw (inv.at_head o z) (record {
+        record {
           fuel = length p.labels;
           enough = omega arith;
-          some = omega (arith, inv.inside o);
+          some = some;
           inside = omega arith;
-          is = sym (headed true t);
-        })
-
-    pub head_ill : (eqb l.start 0 && eqb l.len 0 && eqb l.target 0) ≡ false → ill_chain ≡ lookup_from p (name p start len) p.labels
-    head_ill t = sym (headed false t)
-
-  module _ (z : w.at ≡ 0 → ⊥) where
-    pub chain_on : name_in p.image l.start l.len ≡ true → same (name p start len) (name_of p.image l) ≡ false → GoesOn p start len w.bound l.next
-    chain_on n m = let f = inv.further o z in rw f.0 (on p start len f.1 w.at f.3 z f.2 l e n m)
-
-    pub chain_out : name_in p.image l.start l.len ≡ false → ill_chain ≡ lookup_from p (name p start len) p.labels
-    chain_out n = let f = inv.further o z in sym (out p start len f.1 w.at f.3 z f.2 l e n)
-
-    pub chain_found : name_in p.image l.start l.len ≡ true → same (name p start len) (name_of p.image l) ≡ true →
-        in_program p l.target ≡ lookup_from p (name p start len) p.labels
-    chain_found n m = let f = inv.further o z in sym (finds_it p start len f.1 w.at f.3 z f.2 l e n m)
-
--- a walk that goes on to the index i
-pub goes_to : (p : Program) (start len bound i : ℕ) → name_in p.image start len ≡ true → GoesOn p start len bound i → (i ≡ 0 → ⊥) → i < bound →
-    Walks p start len (record { on = true; at = i; bound = i; answer = NotAsked })
-goes_to p start len bound i n g z h =
-    record {
-      lies = λ e. n;
-      inside = λ e. omega (arith, g.inside);
-      at_head = λ e q. absurd (z q);
-      further = λ e q. (refl, bound, h, g);
-      answered = λ e. never (sym e);
-    }
-
--- a walk that begins
-pub begins : (p : Program) (start len records : ℕ) → name_in p.image start len ≡ true → length p.labels ≡ records → 0 < records →
-    Walks p start len (record { on = true; at = 0; bound = records; answer = NotAsked })
-begins p start len records n e h =
-    record {
-      lies = λ q. n;
-      inside = λ q. omega arith;
-      at_head = λ q z. sym e;
-      further = λ q z. absurd (z refl);
-      answered = λ q. never (sym q);
-    }
+          is = sym (from_head l true p.labels e some t);
+        }

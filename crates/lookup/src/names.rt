@@ -4,7 +4,7 @@ ghost use Rattle.inst.specs.Records.{part, same};
 
 use inst::same_name;
 
-// Whether two names of the image are the same bytes. Only `judge` calls it, for names that lie there.
+// Whether two names of the image are the same bytes. Only `walk` calls it, for names that lie there.
 pub fn matches(image: &[u8], s: u64, n: u64, t: u64, m: u64) -> bool
     requires { (s + n ≤ length image.now) × (t + m ≤ length image.now) }
     ensures { result ≡ same (part image.now s n) (part image.now t m) }

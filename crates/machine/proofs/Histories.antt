@@ -12,8 +12,7 @@ use lib.ListN.{length, take, drop, length-append}
 use lib.Seq.{sets, length-sets, take-append_seam, drop-append_seam}
 use borrow.Author.Tests.{eqb-true, eqb-false}
 use Rattle.machine.specs.declared.Machine.{Machine}
-use Rattle.machine.specs.declared.Ending.{Ending}
-use Rattle.machine.specs.declared.Ending.TheVariants.{Halted, Limit, Number}
+use Rattle.machine.specs.Ending.{Ending, Halted, Limit, Number}
 use Rattle.machine.specs.Lookup.{Program}
 use Rattle.machine.specs.Step.{Stepped, succeeds, outputs, trap, ill, step}
 use Rattle.machine.specs.Run.{Course, ended, after, is_ill, is_dump, Before, before, taken, turn, course, reported, run}

@@ -12,4 +12,5 @@ pub mod Refusals
 pub mod Fuel
 pub mod Histories
 mod Only
+pub mod Endings
 pub mod Runs

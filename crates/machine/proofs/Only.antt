@@ -10,8 +10,7 @@ use lib.ListN.{length, take, drop, length-append, take-append-drop}
 use lib.Seq.{length-take-le, drop-append_seam}
 use borrow.Author.Tests.{ltb-true, ltb-false, eq-eqb, ne_eqb}
 use Rattle.machine.specs.declared.Machine.{Machine}
-use Rattle.machine.specs.declared.Ending.{Ending}
-use Rattle.machine.specs.declared.Ending.TheVariants.{Halted, Limit, Number}
+use Rattle.machine.specs.Ending.{Ending, Halted, Limit, Number}
 use Rattle.machine.specs.Lookup.{Program}
 use Rattle.machine.specs.Step.{Stepped, succeeds, outputs, trap, ill, step}
 use Rattle.machine.specs.Run.{is_ill, is_dump, Result}

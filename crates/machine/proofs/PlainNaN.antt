@@ -14,8 +14,7 @@ use Rattle.binary64.proofs.Special.{nan_is, nan_result, special}
 use Rattle.nan.specs.declared.CellType.{CellType}
 use Rattle.nan.specs.declared.CellType.TheVariants.{F64, I64, Unknown}
 use Rattle.nan.specs.Cells.{tagged, type_of}
-use Rattle.inst.specs.Forms.{values}
-use Rattle.inst.proofs.Table.{entry}
+use Rattle.inst.proofs.Table.{values, entry}
 use Rattle.inst.proofs.Laws.{never}
 use Rattle.machine.specs.declared.Machine.{Machine}
 use Rattle.machine.specs.Change.{with_stack, moved, onward, top, popped, replaced}

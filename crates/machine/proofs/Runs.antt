@@ -12,7 +12,7 @@ use Rattle.inst.specs.declared.Inst.{Inst}
 use Rattle.inst.specs.Records.{Bytes}
 use Rattle.machine.specs.declared.Machine.{Machine}
 use Rattle.machine.specs.declared.Label.{Label}
-use Rattle.machine.specs.declared.Ending.TheVariants.{Number}
+use Rattle.machine.specs.Ending.{Number}
 use Rattle.machine.specs.Limits.{stack_limit, call_limit, label_records}
 use Rattle.machine.specs.Load.{is_halt, Loaded, accepts, load, insts_after, labels_after, fresh, count_of}
 use Rattle.machine.specs.Lookup.{Program, leads_to}

@@ -3,6 +3,8 @@ pub mod Load
 pub mod Lookup
 pub mod Change
 pub mod Step
+pub mod Traps
+pub mod Ending
 pub mod Run
 pub mod Effects
 pub mod Touches

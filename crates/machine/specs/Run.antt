@@ -2,8 +2,7 @@
 use Rattle.std.specs.Prelude.{ℕ, zero, suc, ◌-◌, Bool, true, false, cond, ◌&&◌, List, [], ◌∷◌, ◌++◌, eqb, length}
 use Rattle.std.proofs.lemmas.List.Edits.{sets}
 use Rattle.machine.specs.declared.Machine.{Machine}
-use Rattle.machine.specs.declared.Ending.{Ending}
-use Rattle.machine.specs.declared.Ending.TheVariants.{Halted, Limit, Number}
+use Rattle.machine.specs.Ending.{Ending, Halted, Limit, Number}
 use Rattle.machine.specs.Lookup.{Program}
 use Rattle.machine.specs.Step.{Stepped, succeeds, outputs, trap, ill, step}
 

@@ -5,8 +5,7 @@ use Rattle.inst.specs.declared.Inst.{Inst}
 use Rattle.inst.specs.Records.{part, Bytes}
 use Rattle.machine.specs.declared.Machine.{Machine}
 use Rattle.machine.specs.declared.Label.{Label}
-use Rattle.machine.specs.declared.Ending.{Ending}
-use Rattle.machine.specs.declared.Ending.TheVariants.{Halted, Limit, Number}
+use Rattle.machine.specs.Ending.{Ending, Halted, Limit, Number}
 use Rattle.machine.specs.Load.{halt, start_name, Loaded, accepts, load, insts_after, labels_after, fresh, count_of, Scan, goes, begin, scan}
 use Rattle.machine.specs.Change.{height_of_calls}
 use Rattle.machine.specs.Lookup.{Program, Found, ill_chain, no_label, leads_to, walk, lookup}

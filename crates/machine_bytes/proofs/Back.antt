@@ -146,9 +146,9 @@ module _ (m : Machine) (s : Sized m) where
   unfolding all rest
   all_long = length-append (front ++ numbers) rest ∙ omega (arith, before_flags)
 
-  pub is_machine_lem : is_machine (machine_bytes m) ≡ true
+  pub is_a_machine : is_machine (machine_bytes m) ≡ true
   unfolding is_machine machine_bytes all rest halted
-  is_machine_lem = rw (eq-eqb _ _ all_long, halted_is, below_two m.halted)
+  is_a_machine = rw (eq-eqb _ _ all_long, halted_is, below_two m.halted)
 
   pub machine_back : machine_of (machine_bytes m) ≡ m
   unfolding machine_of machine_bytes all rest halted

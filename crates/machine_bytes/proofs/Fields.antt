@@ -1,7 +1,7 @@
 -- A machine's fields written one behind the other. Assumes nothing.
 use Prim.Native.Nat.{ℕ, ◌+◌, ◌-◌}
 use mathlib.Core.Path.{◌≡◌, refl, ap, sym, ◌∙◌}
-use mathlib.Core.Bool.{Bool, cond}
+use mathlib.Core.Bool.{Bool, true, false, cond}
 use mathlib.Core.List.{List, [], ◌∷◌, ◌++◌, append_assoc}
 use native.Mathlib.Omega.{arith}
 use lib.ListN.{length, take, drop, set, length-append, length-drop}
@@ -12,6 +12,7 @@ use Rattle.machine.specs.Limits.{stack_limit, call_limit, memory_size}
 use Rattle.tables.specs.Tables.{bytes_of}
 use Rattle.tables.proofs.Bytes.{length_bytes, stored_more}
 use Rattle.inst.proofs.Parts.{lent_whole, sets_whole}
+use Rattle.std.specs.Int.{from_bool}
 use Rattle.step_core.specs.declared.Registers.{Registers}
 use Rattle.step_core.specs.Parts.{height_of_calls, of_parts}
 use Rattle.machine_bytes.specs.Layout.{calls_at, memory_at, height_at, call_height_at, ip_at, flags_at, halted_at, machine_size, machine_bytes}
@@ -47,10 +48,6 @@ module _ (s ca me : List ℕ) (ls : length s ≡ stack_limit) (lc : length ca �
       ∙ ap (λ (n : ℕ). sets (sets m 0 stacks) n me) w
       ∙ sets_more stacks m me 0
 
--- which keeps the size
-pub same_size : (m m' s ca me : List ℕ) → m' ≡ sets m 0 (bytes_of s ++ bytes_of ca ++ me) → length m' ≡ length m
-same_size m m' s ca me e = ap length e ∙ length-sets m 0 (bytes_of s ++ bytes_of ca ++ me)
-
 -- the numbers, flags and halted
 pub three : (h ch ip : ℕ) (rest : List ℕ) → eight_of h ++ (eight_of ch ++ (eight_of ip ++ rest)) ≡ bytes_of (h ∷ ch ∷ ip ∷ []) ++ rest
 unfolding bytes_of eight_of
@@ -67,6 +64,11 @@ regs_stored m m1 m2 m3 h ch ip f b p q r =
     ∙ ap (λ (x : List ℕ). sets x call_height_at (eight_of ch ++ (eight_of ip ++ rest))) p
     ∙ stored_more m (eight_of ch ++ (eight_of ip ++ rest)) h height_at call_height_at refl
     ∙ ap (sets m height_at) (three h ch ip rest)
+
+-- a flag as a byte
+pub byte_is : (b : Bool) → from_bool b ≡ cond b 1 0
+byte_is true = refl
+byte_is false = refl
 
 -- all of them
 pub parts_stored : (c : Registers) (f : ℕ) (halted : Bool) (m s ca me m1 m2 : List ℕ) → length m ≡ machine_size

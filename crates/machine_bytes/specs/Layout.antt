@@ -63,5 +63,5 @@ pub record Sized (m : Machine) : Type 0 where
 
 -- the bytes of a machine are a machine's, and stand for it
 pub record Crosses : Type 0 where
-  pub is_machine_lem : (m : Machine) → Sized m → is_machine (machine_bytes m) ≡ true
+  pub is_a_machine : (m : Machine) → Sized m → is_machine (machine_bytes m) ≡ true
   pub comes_back : (m : Machine) → Sized m → machine_of (machine_bytes m) ≡ m

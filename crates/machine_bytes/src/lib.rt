@@ -1,12 +1,12 @@
 // A machine as bytes, as a host lends it: tested, read into arrays and numbers, and written from them.
-// What reads and writes has a `requires`: only the host's calls use it, behind their tests.
+// What reads and writes is lent bytes as long as a machine, by their type.
 #![tactic(auto)]
 
 ghost use Rattle.std.specs.Prelude.{◌≡◌, ◌+◌, ◌*◌, ◌≤◌, cond, [], ◌∷◌, ◌++◌, length};
 ghost use Rattle.std.proofs.lemmas.List.Edits.{sets};
 ghost use Rattle.tables.specs.Tables.{numbers_in, bytes_of};
 ghost use Rattle.step_core.specs.Parts.{height_of_calls, of_parts};
-ghost use Rattle.machine_bytes.specs.Layout.{machine_size, height_at, is_machine, machine_of, machine_bytes, Crosses};
+ghost use Rattle.machine_bytes.specs.Layout.{height_at, is_machine, machine_of, machine_bytes, Crosses};
 ghost use Rattle.step_core.specs.Parts.{registers_of};
 
 use machine::{CALL_LIMIT, MEMORY_SIZE, Machine, STACK_LIMIT};
@@ -33,13 +33,14 @@ const HALTED: usize = FLAGS + 1;
 
 pub const MACHINE_SIZE: usize = HALTED + 1;
 
-pub fn is_machine(machine: &[u8]) -> bool
-    ensures { result ≡ is_machine machine.now }
+// Bytes as long as a machine.
+pub type MachineBytes = [u8; MACHINE_SIZE];
+
+// Whether bytes are a machine's: as long as one, and 0 or 1 for halted.
+pub fn is_machine(bytes: &[u8]) -> bool
+    ensures { result ≡ is_machine bytes.now }
 {
-    if machine.len() != MACHINE_SIZE {
-        return false;
-    }
-    machine[HALTED] < 2
+    bytes.len() == MACHINE_SIZE && bytes[HALTED] < 2
 }
 
 // The numbers of bytes: one copy, once compiled.
@@ -47,10 +48,8 @@ fn read_numbers(from: &[u8], to: &mut [u64])
     requires { length from.now ≡ length to.old * 8 }
     ensures { to.new ≡ numbers_in from.now }
 {
-    let mut i = 0;
-    while i < to.len() {
-        to[i] = number_at(from, i);
-        i += 1;
+    for (i, x) in to.iter_mut().enumerate() {
+        *x = number_at(from, i);
     }
 }
 
@@ -59,21 +58,18 @@ fn write_numbers(from: &[u64], at: usize, to: &mut [u8])
     requires { at + length from.now * 8 ≤ length to.old }
     ensures { to.new ≡ sets to.old at (bytes_of from.now) }
 {
-    let mut i = 0;
-    while i < from.len() {
-        put_word(to, at + i * NUMBER, from[i]);
-        i += 1;
+    for (i, x) in from.iter().enumerate() {
+        put_word(to, at + i * NUMBER, *x);
     }
 }
 
 // A machine's arrays.
 pub fn read_arrays(
-    machine: &[u8],
+    machine: &MachineBytes,
     stack: &mut [u64; STACK_LIMIT],
     calls: &mut [u64; CALL_LIMIT],
     memory: &mut [u8; MEMORY_SIZE],
 )
-    requires { length machine.now ≡ machine_size }
     ensures { (stack.new ≡ (machine_of machine.now).stack) × (calls.new ≡ (machine_of machine.now).calls) × (memory.new ≡ (machine_of machine.now).memory) }
 {
     read_numbers(&machine[STACK..CALLS], stack);
@@ -82,8 +78,7 @@ pub fn read_arrays(
 }
 
 // Its numbers that a run carries.
-pub fn registers_of(machine: &[u8]) -> Registers
-    requires { length machine.now ≡ machine_size }
+pub fn registers_of(machine: &MachineBytes) -> Registers
     ensures { result ≡ registers_of (machine_of machine.now) }
 {
     Registers {
@@ -93,15 +88,15 @@ pub fn registers_of(machine: &[u8]) -> Registers
     }
 }
 
-pub fn flags_of(machine: &[u8]) -> u8
-    requires { length machine.now ≡ machine_size }
+#[tactic(auto, unfolding(crate::specs::Layout::machine_of))]
+pub fn flags_of(machine: &MachineBytes) -> u8
     ensures { result ≡ (machine_of machine.now).flags }
 {
     machine[FLAGS]
 }
 
-pub fn is_halted(machine: &[u8]) -> bool
-    requires { length machine.now ≡ machine_size }
+#[tactic(auto, unfolding(crate::specs::Layout::machine_of))]
+pub fn is_halted(machine: &MachineBytes) -> bool
     ensures { result ≡ (machine_of machine.now).halted }
 {
     machine[HALTED] == 1
@@ -112,9 +107,8 @@ fn write_arrays(
     stack: &[u64; STACK_LIMIT],
     calls: &[u64; CALL_LIMIT],
     memory: &[u8; MEMORY_SIZE],
-    machine: &mut [u8],
+    machine: &mut MachineBytes,
 )
-    requires { length machine.old ≡ machine_size }
     ensures machine_after { machine.new ≡ sets machine.old 0 (bytes_of stack.now ++ bytes_of calls.now ++ memory.now) }
     ensures memory_len { length (bytes_of stack.now ++ bytes_of calls.now ++ memory.now) ≡ height_at }
 {
@@ -123,22 +117,15 @@ fn write_arrays(
     machine[MEMORY..HEIGHT].copy_from_slice(memory);
 }
 
-fn bit(b: bool) -> u8
-    ensures { result ≡ cond b 1 0 }
-{
-    if b { 1 } else { 0 }
-}
-
 // The numbers, flags and halted, into the bytes from the height on.
-fn write_registers(regs: Registers, flags: u8, halted: bool, machine: &mut [u8])
-    requires { length machine.old ≡ machine_size }
+fn write_registers(regs: Registers, flags: u8, halted: bool, machine: &mut MachineBytes)
     ensures { machine.new ≡ sets machine.old height_at (bytes_of (regs.height ∷ height_of_calls regs ∷ regs.ip ∷ []) ++ (flags ∷ cond halted 1 0 ∷ [])) }
 {
     put_word(machine, HEIGHT, regs.height as u64);
     put_word(machine, CALL_HEIGHT, regs.call_height as u64);
     put_word(machine, IP, regs.ip as u64);
     machine[FLAGS] = flags;
-    machine[HALTED] = bit(halted);
+    machine[HALTED] = u8::from(halted);
 }
 
 // The machine of these parts, in every byte.
@@ -149,28 +136,21 @@ pub fn write_parts(
     stack: &[u64; STACK_LIMIT],
     calls: &[u64; CALL_LIMIT],
     memory: &[u8; MEMORY_SIZE],
-    machine: &mut [u8],
+    machine: &mut MachineBytes,
 )
-    requires { length machine.old ≡ machine_size }
     ensures { machine.new ≡ machine_bytes (of_parts regs flags stack.now calls.now memory.now halted) }
 {
     write_arrays(stack, calls, memory, machine);
     write_registers(regs, flags, halted, machine);
 }
 
-pub fn write_machine(m: Machine, machine: &mut [u8])
-    requires { length machine.old ≡ machine_size }
-    ensures { machine.new ≡ machine_bytes m }
+pub fn write_machine(m: &Machine, machine: &mut MachineBytes)
+    ensures { machine.new ≡ machine_bytes m.now }
 {
-    let regs = Registers {
-        ip: m.ip,
-        height: m.height,
-        call_height: m.call_height,
-    };
-    let stack = m.stack;
-    let calls = m.calls;
-    let memory = m.memory;
-    write_parts(regs, m.flags, m.halted, &stack, &calls, &memory, machine);
+    let regs = Registers::from(m);
+    write_parts(
+        regs, m.flags, m.halted, &m.stack, &m.calls, &m.memory, machine,
+    );
 }
 
 // No code: its contract states that a machine crosses and comes back.

@@ -5,11 +5,8 @@ use Rattle.machine.specs.Run.{Result}
 use Rattle.machine.specs.Encode.{Encoded, unencoded, encoded, encode, encoded_size, output_after}
 use Rattle.tables.specs.Tables.{insts_of, program}
 use Rattle.loader.specs.Loading.{load_of, insts_left, labels_left}
-use Rattle.run.specs.declared.progress.Progress.{Progress}
-use Rattle.run.specs.Turns.{ending_of}
 use Rattle.run.specs.Runs.{run_bytes}
-use Rattle.c_answers.specs.declared.Ran.{Ran}
-use Rattle.c_answers.specs.Endings.{ending_number}
+use Rattle.machine.specs.Ending.{ending_number}
 use Rattle.mm_host.specs.declared.Encoded as answer
 use Rattle.machine_bytes.specs.Layout.{machine_size, is_machine, machine_of, machine_bytes}
 
@@ -56,10 +53,6 @@ pub record RunCall : Type 0 where
 unfoldable pub ran_by : Result → RunCall
 ran_by r =
     record { ending = ending_number r.ending; steps = r.steps; dumped = r.dumped; machine = machine_bytes r.machine; dumps = r.buffer }
-
--- between what the run leaves and what the call answers
-abbrev pub ran_with : ℕ → Progress → Ran
-ran_with limit r = record { ending = ending_number (ending_of r.ending r.number); steps = limit - r.left; dumped = r.dumped }
 
 -- 50 first: bytes that are no machine's
 unfoldable pub run_call : (image insts labels : List ℕ) → ℕ → List ℕ → ℕ → List ℕ → RunCall

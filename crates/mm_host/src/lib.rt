@@ -2,23 +2,28 @@
 // None has a `requires`: each is right for slices of any length and contents, at any address.
 #![tactic(auto)]
 
-ghost use Rattle.std.specs.Prelude.{◌≡◌, ◌≤◌};
-ghost use Rattle.mm_host.specs.Calls.{ran_with, encoded_numbers, load_call, run_call, encode_call, size_call};
+ghost use Rattle.std.specs.Prelude.{◌≡◌};
+ghost use Rattle.mm_host.specs.Calls.{encoded_numbers, load_call, run_call, encode_call, size_call};
 ghost use Rattle.encoder.specs.Encoder.{means};
 
-use c_answers::{Loaded, Ran, ending_number};
-use encoder::{Written, encoded_size, to_binary};
-use loader::{Loading, fresh, from_binary};
+use c_answers::{Loaded, Ran};
+use encoder::{EncodeError, encoded_size, to_binary};
+use loader::{fresh, from_binary};
 use machine::{CALL_LIMIT, MEMORY_SIZE, STACK_LIMIT};
 use machine_bytes::{
     MACHINE_SIZE, flags_of, is_halted, is_machine, read_arrays, registers_of, write_machine,
     write_parts,
 };
-use run::progress::{HALTED, Progress};
-use run::{ending, execute_parts};
+use run::execute_parts;
 
 // What is lent is no machine; a number of our own.
 const NO_MACHINE: u64 = 50;
+
+const NO_RUN: Ran = Ran {
+    ending: NO_MACHINE,
+    steps: 0,
+    dumped: 0,
+};
 
 #[repr(C)]
 #[derive(Clone, Copy)]
@@ -31,41 +36,24 @@ pub struct Encoded {
 pub fn mm_load(image: &[u8], insts: &mut [u8], labels: &mut [u8], machine: &mut [u8]) -> Loaded
     ensures { load_call image.now insts.old labels.old machine.old ≡ record { number = result.number; count = result.count; insts = insts.new; labels = labels.new; machine = machine.new } }
 {
-    if machine.len() != MACHINE_SIZE {
+    let Some(bytes) = machine.as_mut_array::<MACHINE_SIZE>() else {
         return Loaded {
             number: NO_MACHINE,
             count: 0,
         };
-    }
-    let answer = from_binary(image, insts, labels);
-    match answer {
-        Loading::Refused(n) => {
-            return Loaded {
-                number: n as u64,
-                count: 0,
-            };
-        }
-        Loading::Accepted { ip, count } => {
-            let m = fresh(ip);
-            write_machine(m, machine);
-            return Loaded {
+    };
+    match from_binary(image, insts, labels) {
+        Err(refusal) => Loaded {
+            number: refusal.number() as u64,
+            count: 0,
+        },
+        Ok(accepted) => {
+            write_machine(&fresh(accepted.ip), bytes);
+            Loaded {
                 number: 0,
-                count: count as u64,
-            };
+                count: accepted.count as u64,
+            }
         }
-    }
-}
-
-// What a run answers, which began with this limit.
-fn ran(left: Progress, limit: u64) -> Ran
-    requires { left.left ≤ limit }
-    ensures { result ≡ ran_with limit left }
-{
-    let last = ending(left.ending, left.number);
-    Ran {
-        ending: ending_number(last),
-        steps: limit - left.left,
-        dumped: left.dumped as u64,
     }
 }
 
@@ -82,52 +70,53 @@ pub fn mm_run(
 ) -> Ran
     ensures { run_call image.now insts.now labels.now count machine.old limit dumps.old ≡ record { ending = result.ending; steps = result.steps; dumped = result.dumped; machine = machine.new; dumps = dumps.new } }
 {
-    if !is_machine(machine) {
-        return Ran {
-            ending: NO_MACHINE,
-            steps: 0,
-            dumped: 0,
-        };
+    let Some(bytes) = machine.as_mut_array::<MACHINE_SIZE>() else {
+        return NO_RUN;
+    };
+    if !is_machine(bytes) {
+        return NO_RUN;
     }
     let mut s = [0u64; STACK_LIMIT];
     let mut c = [0u64; CALL_LIMIT];
     let mut b = [0u8; MEMORY_SIZE];
-    read_arrays(machine, &mut s, &mut c, &mut b);
-    let p = execute_parts(
+    read_arrays(bytes, &mut s, &mut c, &mut b);
+    let outcome = execute_parts(
         image,
         insts,
         labels,
         count as usize,
-        registers_of(machine),
-        flags_of(machine),
-        is_halted(machine),
+        registers_of(bytes),
+        flags_of(bytes),
+        is_halted(bytes),
         limit,
         &mut s,
         &mut c,
         &mut b,
         dumps,
     );
-    write_parts(p.regs, p.flags, p.ending == HALTED, &s, &c, &b, machine);
-    ran(p, limit)
+    let at = outcome.at;
+    write_parts(at.regs, at.flags, outcome.is_halted(), &s, &c, &b, bytes);
+    Ran {
+        ending: u64::from(outcome.ending),
+        steps: limit - at.left,
+        dumped: at.dumped as u64,
+    }
 }
 
 // The encoder's answer as numbers.
-fn encoded_numbers(answer: Written) -> Encoded
+#[tactic(auto, unfolding(crate::specs::Calls::encoded_numbers, encoder::specs::Encoder::means))]
+fn encoded_numbers(answer: Result<usize, EncodeError>) -> Encoded
     ensures { result ≡ encoded_numbers (means answer) }
 {
     match answer {
-        Written::Refused(n) => {
-            return Encoded {
-                number: n as u64,
-                size: 0,
-            };
-        }
-        Written::Bytes(size) => {
-            return Encoded {
-                number: 0,
-                size: size as u64,
-            };
-        }
+        Ok(size) => Encoded {
+            number: 0,
+            size: size as u64,
+        },
+        Err(error) => Encoded {
+            number: error.number() as u64,
+            size: 0,
+        },
     }
 }
 

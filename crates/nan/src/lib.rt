@@ -11,7 +11,7 @@ const SIGN: u64 = 0x8000000000000000;
 // 2^48: a magnitude is below it
 const VALUES: u64 = 0x1000000000000;
 
-#[derive(Clone, Copy)]
+#[derive(Clone, Copy, PartialEq, Eq)]
 pub enum CellType {
     F64,
     I64,
@@ -21,16 +21,16 @@ pub enum CellType {
 }
 
 // mm has no type for 8, which the usual quiet NaN has: request a of document 02.
+#[tactic(auto, unfolding(crate::specs::Cells::type_of, crate::specs::Cells::tagged))]
 pub fn get_type(cell: u64) -> CellType
     ensures { result ≡ cells.type_of cell }
 {
     if float64::is_nan(cell) {
         match cell / VALUES % 16 {
-            1 => CellType::F64,
+            1 | 8 => CellType::F64,
             2 => CellType::I64,
             3 => CellType::U64,
             4 => CellType::Ptr,
-            8 => CellType::F64,
             _ => CellType::Unknown,
         }
     } else {
@@ -45,15 +45,11 @@ pub fn get_value(cell: u64) -> i64
     if cell >= SIGN { -magnitude } else { magnitude }
 }
 
+#[tactic(auto, using(crate::proofs::Laws::word_of))]
 pub fn as_u64(cell: u64) -> u64
     ensures { result ≡ cells.as_u64 cell }
 {
-    let magnitude = cell % VALUES;
-    if cell >= SIGN {
-        std::num::wrapping_sub_u64(0, magnitude)
-    } else {
-        magnitude
-    }
+    get_value(cell).cast_unsigned()
 }
 
 // The given top 16 bits over v's magnitude modulo 2^48, with bit 63 set where v is below 0.
@@ -61,24 +57,16 @@ fn set_value(top: u64, v: i64) -> u64
     requires { top ≤ 0x7FFF }
     ensures { result ≡ cells.boxed top v }
 {
-    if v < 0 {
-        // -v does not fit at -2^63, so the one comes after the cast
-        let magnitude = ((-1 - v) as u64) + 1;
-        SIGN + top * VALUES + magnitude % VALUES
-    } else {
-        top * VALUES + (v as u64) % VALUES
-    }
+    let sign = if v < 0 { SIGN } else { 0 };
+    sign + top * VALUES + v.unsigned_abs() % VALUES
 }
 
 // A word taken as signed.
+#[tactic(auto, using(crate::proofs::Laws::signed_of))]
 pub fn signed(n: u64) -> i64
     ensures { result ≡ cells.signed n }
 {
-    if n < SIGN {
-        n as i64
-    } else {
-        -1 - ((0xFFFFFFFFFFFFFFFF - n) as i64)
-    }
+    n.cast_signed()
 }
 
 pub fn from_i64(v: i64) -> u64

@@ -18,9 +18,9 @@ use Rattle.loader.specs.Loading.{insts_left, labels_left}
 use Rattle.loader.proofs.Left.{insts_left_lem, labels_left_lem}
 use Rattle.run.specs.Runs.{run_bytes}
 use Rattle.run.proofs.Cells.{cells, in_cells}
-use Rattle.c_answers.specs.Endings.{ending_number}
+use Rattle.machine.specs.Ending.{ending_number}
 use Rattle.machine_bytes.specs.Layout.{machine_of, machine_bytes, Sized}
-use Rattle.machine_bytes.proofs.Back.{is_machine_lem, machine_back}
+use Rattle.machine_bytes.proofs.Back.{is_a_machine, machine_back}
 use Rattle.mm_host.specs.Calls.{LoadCall, RunCall, loaded_by, load_call, no_machine, ran_by, run_call}
 use Rattle.mm_host.proofs.Accepted.{load_accepted}
 use Rattle.label_run.specs.Runs as runs
@@ -68,7 +68,7 @@ module _ (image insts labels : List ℕ) (count : ℕ) where
 
   run_is : (x : Machine) (limit : ℕ) (dumps : List ℕ) → Sized x → run_call image insts labels count (machine_bytes x) limit dumps ≡ ran_by (run_bytes p limit dumps x)
   unfolding run_call
-  run_is x limit dumps s = rw (is_machine_lem x s, machine_back x s)
+  run_is x limit dumps s = rw (is_a_machine x s, machine_back x s)
 
   by_bytes : (x : Machine) (bytes : List ℕ) (cs : List (HostRun (List ℕ))) → Sized x → bytes ≡ machine_bytes x → HostRuns (Ran image insts labels count) bytes cs → Crossed p machine_of x cs
   unfolding HostRuns RunsFrom NoneIs ran_by

@@ -9,8 +9,7 @@ use lib.IntN.{pos}
 use lib.ListN.{length, replicate, length-set, length-replicate}
 use borrow.Author.Tests.{ne_eqb}
 use Rattle.machine.specs.declared.Machine.{Machine}
-use Rattle.machine.specs.declared.Ending.{Ending}
-use Rattle.machine.specs.declared.Ending.TheVariants.{Halted, Limit, Number}
+use Rattle.machine.specs.Ending.{Ending, Halted, Limit, Number}
 use Rattle.machine.specs.Change.{height_of_calls}
 use Rattle.machine.specs.Lookup.{Program, Found}
 use Rattle.machine.specs.Step.{Stepped, succeeds, outputs, trap, ill, step}
@@ -22,7 +21,7 @@ use Rattle.machine.specs.Steps.{CallsLeft, Touched, TrapLeft}
 use Rattle.machine.specs.Statements.{Request, Why, is_ill_lem, is_full, is_trap, Because}
 use Rattle.machine.proofs.Does.{traps_leave, steps_touch}
 use Rattle.machine.proofs.Histories.{runs_are_histories}
-use Rattle.c_answers.specs.Endings.{ending_number}
+use Rattle.machine.specs.Ending.{ending_number}
 use Rattle.machine_bytes.specs.Layout.{Sized}
 use Rattle.mm_host.specs.Calls.{no_machine}
 use Rattle.one_history.specs.Host.{ending_of}

@@ -1,5 +1,5 @@
 -- Demand 3 of the code: what the contracts of one load and of any list of runs say makes these calls one history. Definitions only.
-use Rattle.std.specs.Prelude.{ℕ, ◌≡◌, List, [], ◌∷◌, map}
+use Rattle.std.specs.Prelude.{ℕ, ◌≡◌, Ok, List, [], ◌∷◌, map}
 use Rattle.inst.specs.Records.{Bytes}
 use Rattle.machine.specs.declared.Machine.{Machine}
 use Rattle.machine.specs.declared.Label.{Label}
@@ -7,7 +7,6 @@ use Rattle.machine.specs.Load.{Load, Loaded, accepts}
 use Rattle.machine.specs.Run.{Result}
 use Rattle.machine.specs.Statements.{Request, OneHistory}
 use Rattle.tables.specs.Tables.{numbers_in}
-use Rattle.loader.specs.declared.Loading.TheVariants.{Accepted}
 use Rattle.loader.specs.Loading.{fresh_at, load_of, FromBinary}
 use Rattle.run.specs.declared.Ran.{Ran}
 use Rattle.run.specs.Runs.{answer, ExecuteProgram}
@@ -45,12 +44,12 @@ abbrev pub CallsAreOneHistory : Type 0
 CallsAreOneHistory =
     (image insts labels : List ℕ) (ip count : ℕ) (insts' labels' : List ℕ)
     → Bytes image
-    → FromBinary image insts labels (Accepted ip count) insts' labels'
+    → FromBinary image insts labels (Ok (record { ip = ip; count = count })) insts' labels'
     → (cs : List Call)
     → Called (ExecuteProgram image insts' labels' count) (fresh_at ip) cs
     → OneHistoryOf image (load_of image insts labels) cs
 
--- the same where the label table is lent as records (label_loader's mm_load_labels and label_run's execute_program): a load that answers the number 0, and
+-- the same where the label table is lent as records (label_loader's mm_load_labels and run's execute_program over them): a load that answers the number 0, and
 -- runs from the fresh machine of its pointer
 abbrev pub RecordCallsAreOneHistory : Type 0
 RecordCallsAreOneHistory =

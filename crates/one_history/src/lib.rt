@@ -1,8 +1,9 @@
-// Demand 3 of the code. No behaviour of its own: `load`, `run`, `host_load` and `host_run` hold the statements' hypotheses to the calls.
+// Demand 3 of the code. No behaviour of its own: `load`, `run`, `run_records`, `host_load` and `host_run` hold the statements' hypotheses to the calls.
 #![tactic(auto)]
 
 ghost use Rattle.inst.specs.Records.{Bytes};
 ghost use Rattle.loader.specs.Loading.{FromBinary};
+ghost use Rattle.label_run.specs.Runs as records;
 ghost use Rattle.run.specs.Runs.{ExecuteProgram};
 ghost use Rattle.std.specs.Prelude.{◌≡◌};
 ghost use Rattle.mm_host.specs.Calls.{load_call};
@@ -11,12 +12,12 @@ ghost use Rattle.one_history.specs.Host as host;
 ghost use Rattle.one_history.specs.Host.{HostTheorems};
 
 use c_answers::{Loaded, Ran as HostRan};
-use loader::Loading;
-use machine::Machine;
+use loader::{Accepted, Refusal};
+use machine::{Label, Machine};
 use run::Ran;
 
 // A call of from_binary gives what the statement asks of the load.
-pub fn load(image: &[u8], insts: &mut [u8], labels: &mut [u8]) -> Loading
+pub fn load(image: &[u8], insts: &mut [u8], labels: &mut [u8]) -> Result<Accepted, Refusal>
     ensures from_binary { FromBinary image.now insts.old labels.old result insts.new labels.new }
     ensures bytes { Bytes image.now }
 {
@@ -34,6 +35,21 @@ pub fn run(
     dumps: &mut [u8],
 ) -> Ran
     ensures { ExecuteProgram image.now insts.now labels.now count m limit dumps.old result dumps.new }
+{
+    run::execute_program(image, insts, labels, count, m, limit, dumps)
+}
+
+// The same over label records.
+pub fn run_records(
+    image: &[u8],
+    insts: &[u8],
+    labels: &[Label],
+    count: usize,
+    m: Machine,
+    limit: u64,
+    dumps: &mut [u8],
+) -> Ran
+    ensures { records.ExecuteProgram image.now insts.now labels.now count m limit dumps.old result dumps.new }
 {
     run::execute_program(image, insts, labels, count, m, limit, dumps)
 }

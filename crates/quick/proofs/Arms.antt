@@ -11,7 +11,7 @@ use Rattle.step_core.specs.declared.Registers.{Registers}
 use Rattle.step_core.specs.declared.Executed.{Executed}
 use Rattle.step_core.specs.declared.Executed.TheVariants.{Next, Compared, Dump, Halt, Trap, Ill}
 use Rattle.step_core.specs.Parts.{of_parts, Acts}
-use Rattle.quick.specs.declared.Quick.{Quick}
+use Rattle.std.specs.Prelude.{Option}
 use Rattle.known.specs.Known.{looks_up}
 use Rattle.quick.specs.Quick.{StepOrStop, success_of, step_at}
 
@@ -26,12 +26,12 @@ module _ {i : Machine → Stepped} {c : Registers} {s ca me s' ca' me' : List �
   by_answer f (Trap n t) a = record { holds = a.kept }
   by_answer f Ill a = record { holds = a.kept }
 
-  pub quickly : {answer : Executed} {r : Quick} (f : ℕ) → Acts i c s ca me answer s' ca' me' → r ≡ success_of answer f →
+  pub quickly : {answer : Executed} {r : Option (Registers × ℕ)} (f : ℕ) → Acts i c s ca me answer s' ca' me' → r ≡ success_of answer f →
       StepOrStop (i (of_parts c f s ca me false)) s ca me s' ca' me' r
   quickly f a e = rw e (by_answer f _ a)
 
 -- the same for an equal step
-pub as_is : {e e' : Stepped} {s ca me s' ca' me' : List ℕ} {r : Quick} → e ≡ e' → StepOrStop e' s ca me s' ca' me' r → StepOrStop e s ca me s' ca' me' r
+pub as_is : {e e' : Stepped} {s ca me s' ca' me' : List ℕ} {r : Option (Registers × ℕ)} → e ≡ e' → StepOrStop e' s ca me s' ca' me' r → StepOrStop e s ca me s' ca' me' r
 as_is q h = rw q h
 
 module _ (found : Found) (v start len : ℕ) (m : Machine) (key n : ℕ) (e : key ≡ n) where

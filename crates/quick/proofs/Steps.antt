@@ -17,8 +17,9 @@ use Rattle.quick.proofs.Turns.{course_turn, before_on}
 use Rattle.tables.specs.Tables.{number_at, inst, inst_of}
 use Rattle.step_core.specs.declared.Registers.{Registers}
 use Rattle.step_core.specs.Parts.{of_parts, Inside}
-use Rattle.quick.specs.declared.Quick.TheVariants.{Success}
-use Rattle.known.specs.Known.{known_limit, unknown, KnownAt, Over, Known}
+use Rattle.std.specs.Prelude.{Some}
+use Rattle.known.specs.declared.Known.{Known}
+use Rattle.known.specs.Known.{known_limit, unknown, KnownAt, Over, AllKnown}
 use Rattle.known.proofs.Records.{inst_is, within}
 use Rattle.quick.specs.Quick.{StepOrStop, ExecutesKnown, step_at}
 use Rattle.quick.specs.Courses.{plus, Leads}
@@ -57,10 +58,10 @@ plus_more k k' r h =
     let e : k + suc r.steps ≡ k' + r.steps = omega arith in
     ap (λ (n : ℕ). record { machine = r.machine; ending = r.ending; steps = n; cells = r.cells }) e
 
-module _ (xs keys targets : List ℕ) where
+module _ (xs : List ℕ) (known : Known) where
   -- no step was made yet
   pub begun : (c : Registers) (f steps : ℕ) (s ca me : List ℕ) → Inside c →
-      Leads xs keys targets (of_parts c f s ca me false) steps (record { regs = c; left = steps; flags = f }) s ca me
+      Leads xs known (of_parts c f s ca me false) steps (record { regs = c; left = steps; flags = f }) s ca me
   begun c f steps s ca me h =
       record {
         leads = λ p o k room. let e : steps - steps ≡ 0 = omega arith in ap (λ (n : ℕ). plus n (course p steps room (of_parts c f s ca me false))) e ∙ plus_none _;
@@ -69,33 +70,33 @@ module _ (xs keys targets : List ℕ) where
       }
 
   module _ (m₀ : Machine) (steps : ℕ) (c : Registers) (f left : ℕ) (s ca me : List ℕ)
-      (inv : Leads xs keys targets m₀ steps (record { regs = c; left = left; flags = f }) s ca me) where
+      (inv : Leads xs known m₀ steps (record { regs = c; left = left; flags = f }) s ca me) where
     -- no more steps are made
     pub stopped_at : (s' ca' me' : List ℕ) → (s' ≡ s) × (ca' ≡ ca) × (me' ≡ me) →
-        Leads xs keys targets m₀ steps (record { regs = c; left = left; flags = f }) s' ca' me'
+        Leads xs known m₀ steps (record { regs = c; left = left; flags = f }) s' ca' me'
     stopped_at s' ca' me' e = rw (e.0, e.1, e.2) inv
 
     -- one more was made
     module _ (l : 0 < left) (h : c.ip < known_limit) (n : Registers) (g : ℕ) (s' ca' me' : List ℕ)
-        (q : ExecutesKnown (get_or keys c.ip 0) (number_at xs (c.ip * 4 + 1)) (get_or targets c.ip 0) c f s ca me (Success n g) s' ca' me') where
-      any : StepOrStop (step_at (leads_to (get_or targets c.ip 0)) (inst (get_or keys c.ip 0) (number_at xs (c.ip * 4 + 1)) 0 0) (of_parts c f s ca me false)) s ca me s' ca' me' (Success n g)
-      any = q (leads_to (get_or targets c.ip 0)) 0 0 (λ _. refl)
+        (q : ExecutesKnown (get_or known.keys c.ip 0) (number_at xs (c.ip * 4 + 1)) (get_or known.targets c.ip 0) c f s ca me (Some (n, g)) s' ca' me') where
+      any : StepOrStop (step_at (leads_to (get_or known.targets c.ip 0)) (inst (get_or known.keys c.ip 0) (number_at xs (c.ip * 4 + 1)) 0 0) (of_parts c f s ca me false)) s ca me s' ca' me' (Some (n, g))
+      any = q (leads_to (get_or known.targets c.ip 0)) 0 0 (λ _. refl)
 
-      is_known : get_or keys c.ip 0 ≡ unknown → ⊥
+      is_known : get_or known.keys c.ip 0 ≡ unknown → ⊥
       unfolding step_at
       is_known e =
           let bad : succeeds (of_parts n g s' ca' me' false) ≡ ill = simp (eq-eqb _ _ e) at any.holds.0 in
           let z : ◌≡◌ {A = ℕ} 0 1 = cc in
           omega arith
 
-      stepped : (p : Program) → Over p xs → Known p xs keys targets → step p (of_parts c f s ca me false) ≡ succeeds (of_parts n g s' ca' me' false)
+      stepped : (p : Program) → Over p xs → AllKnown p xs known → step p (of_parts c f s ca me false) ≡ succeeds (of_parts n g s' ca' me' false)
       unfolding step_at
       stepped p o k =
           let a = k c.ip h is_known in
           let d = simp (ne_eqb _ _ is_known) at (q (lookup p (inst_of xs c.ip)) (number_at xs (c.ip * 4 + 2)) (number_at xs (c.ip * 4 + 3)) a.target_is).holds.0 in
-          known_step p xs o (of_parts c f s ca me false) (get_or keys c.ip 0) (get_or targets c.ip 0) a inv.small.0 inv.small.1 ∙ sym d
+          known_step p xs o (of_parts c f s ca me false) (get_or known.keys c.ip 0) (get_or known.targets c.ip 0) a inv.small.0 inv.small.1 ∙ sym d
 
-      pub success_on : Leads xs keys targets m₀ steps (record { regs = n; left = left - 1; flags = g }) s' ca' me'
+      pub success_on : Leads xs known m₀ steps (record { regs = n; left = left - 1; flags = g }) s' ca' me'
       success_on =
           record {
             leads = λ p o k room.

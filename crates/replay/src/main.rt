@@ -2,184 +2,110 @@
 // what was recorded. What is read and written is in no contract; what an image comes to is digests'.
 #![tactic(auto)]
 
-ghost use Rattle.std.specs.Prelude.{◌+◌, ◌≤◌, ◌<◌, length};
-ghost use Rattle.replay.specs.Reading.{Lies, Fits};
+ghost use Rattle.std.specs.Prelude.{◌+◌, ◌≤◌, ◌<◌, IfSome, length};
 
 use digests::{DIGEST, Replayed, replay_image};
+use input::read_full;
 use loader::{INST_BYTES, LABEL_BYTES};
-use std::io::Read;
+use std::fmt;
 
 // More bytes than the sample has.
 const INPUT: usize = 262144;
 
-// Where a record's parts lie: the image from `image` to `end`, the digests from `digests` to `next`, the next record.
-#[derive(Clone, Copy)]
-struct Record {
-    image: usize,
-    end: usize,
+// An image, the number of its refusal or 0, and the digests that were recorded.
+#[derive(Clone, Copy, Drop)]
+struct Record<'a> {
+    image: &'a [u8],
     number: u8,
-    digests: usize,
-    next: usize,
+    digests: &'a [u8],
 }
 
-#[derive(Clone, Copy)]
-enum Parsed {
-    Found(Record),
-    Malformed,
+// What is counted over all records.
+#[derive(Clone, Copy, Drop)]
+struct Totals {
+    images: usize,
+    steps: usize,
+    differ: usize,
 }
 
-// Two bytes, the lowest first.
-fn half_word(low: u8, high: u8) -> usize
-    ensures { result < 65536 }
+impl fmt::Display for Totals {
+    fn fmt<W: fmt::Write>(&self, f: &mut fmt::Formatter<W>) -> fmt::Result {
+        let Totals {
+            images,
+            steps,
+            differ,
+        } = *self;
+        write!(f, "{images} images, {steps} steps, {differ} differ")
+    }
+}
+
+// Two bytes, the lowest first, and what is behind them.
+fn half_word(bytes: &[u8]) -> Option<(u16, &[u8])>
+    ensures { IfSome result (λ p. length p.1.now < length bytes.now) }
 {
-    low as usize + high as usize * 256
+    let (half, rest) = bytes.split_first_chunk::<2>()?;
+    Some((u16::from_le_bytes(*half), rest))
 }
 
-// The record of an accepted image of `len` bytes: behind its number 0, how many digests, and each.
-#[tactic(auto, unfolding(crate::specs::Reading::Fits))]
-fn parse_accepted(bytes: &[u8], at: usize, len: usize) -> Parsed
-    requires { at + len + 2 < length bytes.now }
-    ensures { Fits (length bytes.now) at result }
+// The record at the front, and what is behind it.
+fn parse(bytes: &[u8]) -> Option<(Record<'_>, &[u8])>
+    ensures { IfSome result (λ p. length p.0.digests.now + length p.1.now < length bytes.now) }
 {
-    let image = at + 2;
-    let end = image + len;
-    let left = bytes.len() - end;
-    if left < 3 {
-        return Parsed::Malformed;
-    }
-    let steps = half_word(bytes[end + 1], bytes[end + 2]);
-    if left - 3 < steps * DIGEST {
-        return Parsed::Malformed;
-    }
-    let digests = end + 3;
-    Parsed::Found(Record {
-        image: image,
-        end: end,
-        number: 0,
-        digests: digests,
-        next: digests + steps * DIGEST,
-    })
+    let (len, rest) = half_word(bytes)?;
+    let (image, rest) = rest.split_at_checked(usize::from(len))?;
+    let (number, rest) = rest.split_first()?;
+    let (steps, rest) = if *number == 0 {
+        half_word(rest)?
+    } else {
+        (0, rest)
+    };
+    let (digests, rest) = rest.split_at_checked(usize::from(steps) * DIGEST)?;
+    let record = Record {
+        image,
+        number: *number,
+        digests,
+    };
+    Some((record, rest))
 }
 
-// The record at `at`: an image, and the number of its refusal or 0 and its digests.
-#[tactic(auto, unfolding(crate::specs::Reading::Fits))]
-fn parse(bytes: &[u8], at: usize) -> Parsed
-    requires { at ≤ length bytes.now }
-    ensures { Fits (length bytes.now) at result }
-{
-    let left = bytes.len() - at;
-    if left < 3 {
-        return Parsed::Malformed;
-    }
-    let len = half_word(bytes[at], bytes[at + 1]);
-    if left - 3 < len {
-        return Parsed::Malformed;
-    }
-    let image = at + 2;
-    let end = image + len;
-    let number = bytes[end];
-    if number == 0 {
-        return parse_accepted(bytes, at, len);
-    }
-    Parsed::Found(Record {
-        image: image,
-        end: end,
-        number: number,
-        digests: end + 1,
-        next: end + 1,
-    })
-}
-
-// A record that lies in the bytes.
-fn replay_record(bytes: &[u8], r: Record) -> Replayed
-    requires { Lies (length bytes.now) r }
-    ensures { r.digests + result.steps ≤ r.next }
+fn replay_record(r: Record<'_>) -> Replayed
+    ensures { result.steps ≤ length r.entry.digests.now }
 {
     let mut insts = [0u8; INST_BYTES];
     let mut labels = [0u8; LABEL_BYTES];
-    let image = r.image;
-    let end = r.end;
-    let digests = r.digests;
-    let next = r.next;
-    replay_image(
-        &bytes[image..end],
-        r.number,
-        &bytes[digests..next],
-        &mut insts,
-        &mut labels,
-    )
+    replay_image(r.image, r.number, r.digests, &mut insts, &mut labels)
 }
 
-// A word and a number. What can't be written is passed over, here and below.
-fn print(rt: &impl Print, word: &[u8], number: usize) {
-    let _ = rt.write_all(word);
-    let _ = rt.print(number);
-}
-
-fn report_malformed(rt: &impl Print, at: usize) {
-    print(rt, b"no record at byte ", at);
-    let _ = rt.write_all(b"\n");
-}
-
-// A line where the image differs from what was recorded. 1 if so.
-fn report_difference(rt: &impl Print, image: usize, done: Replayed) -> usize
-    ensures { result ≤ 1 }
-{
-    if done.same {
-        return 0;
-    }
-    print(rt, b"image ", image);
-    print(rt, b" differs after step ", done.steps);
-    let _ = rt.write_all(b"\n");
-    1
-}
-
-fn report_totals(rt: &impl Print, images: usize, steps: usize, differ: usize) {
-    print(rt, b"", images);
-    print(rt, b" images, ", steps);
-    print(rt, b" steps, ", differ);
-    let _ = rt.write_all(b" differ\n");
-}
-
-// Each record of the file, up to the first that isn't one.
-#[tactic(auto, unfolding(crate::specs::Reading::Fits))]
+// Each record of the file, up to the first that isn't one; a line where an image differs from what was recorded. What can't
+// be written is passed over.
 fn replay(rt: &impl Print, bytes: &[u8]) {
-    let mut at: usize = 0;
-    let mut images: usize = 0;
-    let mut steps: usize = 0;
-    let mut differ: usize = 0;
-    while at < bytes.len() {
-        let parsed = parse(bytes, at);
-        let Parsed::Found(r) = parsed else {
-            report_malformed(rt, at);
+    let mut rest = bytes;
+    let mut totals = Totals {
+        images: 0,
+        steps: 0,
+        differ: 0,
+    };
+    while !rest.is_empty() {
+        let Some((record, behind)) = parse(rest) else {
+            let at = bytes.len() - rest.len();
+            let _ = println!(rt; "no record at byte {at}");
             break;
         };
-        let done = replay_record(bytes, r);
-        differ += report_difference(rt, images, done);
-        images += 1;
-        steps += done.steps;
-        at = r.next;
-    }
-    report_totals(rt, images, steps, differ);
-}
-
-// Reads until the buffer is full, the input ends or a read fails, and answers how many bytes it put at the buffer's front.
-fn read_full(input: &mut impl Read, buffer: &mut [u8]) -> usize
-    ensures { result ≤ length buffer.new }
-{
-    let mut at: usize = 0;
-    while at < buffer.len() {
-        let count = input.read(&mut buffer[at..]).unwrap_or(0);
-        if count == 0 {
-            break;
+        let Replayed { same, steps } = replay_record(record);
+        if !same {
+            let image = totals.images;
+            let _ = println!(rt; "image {image} differs after step {steps}");
+            totals.differ += 1;
         }
-        at += count;
+        totals.images += 1;
+        totals.steps += steps;
+        rest = behind;
     }
-    at
+    let _ = println!(rt; "{totals}");
 }
 
 fn main(rt: HostRuntime) {
     let mut bytes = [0u8; INPUT];
-    let size = read_full(&mut rt.stdin(), &mut bytes);
+    let (Ok(size) | Err(size)) = read_full(&mut rt.stdin(), &mut bytes);
     replay(&rt, &bytes[..size]);
 }

@@ -1,7 +1,7 @@
 -- Document 01's sample and a refusal, computed from the definitions. Assumes nothing.
 use mathlib.Core.Path.{◌≡◌, refl}
 use mathlib.Core.List.{[], ◌∷◌}
-use Rattle.machine.specs.declared.Ending.TheVariants.{Halted}
+use Rattle.machine.specs.Ending.{Halted}
 use Rattle.report.specs.Text.{numeral, ending_text, cell_line, end_line, refused_line}
 
 -- `7ff2000000000006`

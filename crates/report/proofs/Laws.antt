@@ -1,18 +1,22 @@
 -- Numbers in decimal, and words put one behind another. Assumes nothing.
 use Prim.Native.Nat.{ℕ, zero, suc, ◌+◌, ◌*◌, ◌/◌, ◌%◌, ◌^◌, ◌-◌, ◌<◌, ◌≤◌}
 use mathlib.Core.Path.{◌≡◌, refl, sym, ◌∙◌, ap}
-use mathlib.Core.List.{List, [], ◌∷◌, ◌++◌, append_assoc}
+use mathlib.Core.List.{List, [], ◌∷◌, ◌++◌, append_assoc, append-nil}
 use native.Mathlib.Nat.{pow-suc, one-le-pow, pow-le-pow_right, lt_of_not-le, le_of_suc-le-suc}
 use native.Mathlib.Omega.{arith}
 use lib.Dec.{ltb, lit<, lit≤}
-use lib.ListN.{length, get_or, take, drop, length-append, drop_of_length-le}
-use lib.Seq.{sets}
+use lib.ListN.{length, get_or, take, drop, length-append}
+use lib.Seq.{sets, length-sets, length-take-le}
+use Rattle.std.proofs.lemmas.List.{take_more}
 use borrow.Author.Tests.{lt-ltb, le-ltb}
 use Rattle.inst.proofs.Parts.{lent_whole}
-use Rattle.inst.proofs.Laws.{by_test, sets_more, drop_next}
-use Rattle.machine.specs.declared.Ending.{Ending}
-use Rattle.machine.specs.declared.Ending.TheVariants.{Halted, Limit, Number}
+use Rattle.inst.proofs.Laws.{by_test, sets_more}
+use Rattle.machine.specs.declared.Ending as code
+use Rattle.machine.specs.declared.Ending.TheVariants as variant
+use Rattle.machine.specs.Ending.{Ending, Halted, Limit, Number, ending_of, ending_number}
 use Rattle.io.specs.Digits.{last_digits, hex_digit_ascii, IsDigitCount}
+use Rattle.report.specs.declared.Output.{Output}
+use Rattle.report.specs.Outputs.{HasRoom, Prints}
 use Rattle.report.specs.Text.{numeral, decimal, cell_line, cell_lines, ending_text, end_line, refused_line, Put}
 
 -- the fewest digits that hold a number are its numeral
@@ -58,37 +62,62 @@ pub put_both : {t t₁ t₂ v w : List ℕ} {at i j : ℕ} → Put t at v t₁ i
 put_both {t} {v = v} {w = w} {at = at} p q =
     record { text_is = q.text_is ∙ rw (p.text_is, p.next_is) (sets_more v t w at); next_is = omega (arith, length-append v w) }
 
--- the lines of the cells from the i-th on
-pub lines_next : (cells : List ℕ) (i : ℕ) → i < length cells
-    → cell_lines (drop i cells) ≡ cell_line (get_or cells i 0) ++ cell_lines (drop (i + 1) cells)
-unfolding cell_lines
-lines_next cells i h = rw (drop_next cells i h)
+pub prints_both : {o o₁ o₂ : Output} {v w : List ℕ} → Prints o v o₁ → Prints o₁ w o₂ → Prints o (v ++ w) o₂
+prints_both p q = record { same_reference = q.same_reference ∙ p.same_reference; put = put_both p.put q.put }
 
-pub lines_end : (cells : List ℕ) (i : ℕ) → length cells ≤ i → cell_lines (drop i cells) ≡ []
-unfolding cell_lines
-lines_end cells i h = rw (drop_of_length-le cells h)
+-- a text keeps its length, so that where two lines fit, the second fits behind the first
+pub same_length : {t v t₁ : List ℕ} {at i : ℕ} → Put t at v t₁ i → length t₁ ≡ length t
+same_length {t} {v} {at = at} p = ap length p.text_is ∙ length-sets t at v
 
+pub room_left : {t v t₁ : List ℕ} {at i : ℕ} (w : List ℕ) → Put t at v t₁ i → at + length (v ++ w) ≤ length t → i + length w ≤ length t₁
+room_left {v = v} w p h = omega (arith, same_length p, p.next_is, length-append v w)
+
+-- the lines of some cells and of more behind them
 pub lines_append : (cells more : List ℕ) → cell_lines (cells ++ more) ≡ cell_lines cells ++ cell_lines more
 unfolding cell_lines
 lines_append [] more = refl
 lines_append (cell ∷ cells) more = rw (lines_append cells more) (sym (append_assoc (cell_line cell) (cell_lines cells) (cell_lines more)))
-
--- a line put, of lines that are left
-pub put_next : {t t₁ line : List ℕ} {at i : ℕ} (lines rest whole : List ℕ) → lines ≡ line ++ rest → sets t at lines ≡ whole → Put t at line t₁ i
-    → sets t₁ i rest ≡ whole
-put_next {t} {line = line} {at = at} lines rest whole e w p =
-    rw (p.text_is, p.next_is) (sets_more line t rest at) ∙ ap (sets t at) (sym e) ∙ w
 
 -- how long the lines are
 length_digits : (b k n : ℕ) → length (last_digits b k n) ≡ k
 length_digits b zero n = refl
 length_digits b (suc k) n = length-append (last_digits b k (n / b)) _ ∙ omega (arith, length_digits b k (n / b))
 
+length_line : (cell : ℕ) → length (cell_line cell) ≡ 17
+unfolding cell_line
+length_line cell = simp length-append (omega (arith, length_digits 16 16 cell))
+
 pub length_lines : (cells : List ℕ) → length (cell_lines cells) ≡ 17 * length cells
-unfolding cell_line cell_lines
+unfolding cell_lines
 length_lines [] = refl
-length_lines (cell ∷ cells) =
-    simp length-append (omega (arith, length_digits 16 16 cell, length_lines cells))
+length_lines (cell ∷ cells) = simp length-append (omega (arith, length_line cell, length_lines cells))
+
+-- the lines of the first i cells are printed: of none; of one more; and there is room for one more of n
+pub lines_begin : {o : Output} → Prints o (cell_lines []) o
+unfolding cell_lines
+lines_begin = record { same_reference = refl; put = record { text_is = refl; next_is = omega arith } }
+
+lines_more : (cells : List ℕ) (i : ℕ) → i < length cells → cell_lines (take (i + 1) cells) ≡ cell_lines (take i cells) ++ cell_line (get_or cells i 0)
+unfolding cell_lines
+lines_more cells i h = rw (take_more cells i 0 h, lines_append, append-nil)
+
+pub lines_next : {o o₁ o₂ : Output} (cells : List ℕ) (i : ℕ) → i < length cells → Prints o (cell_lines (take i cells)) o₁
+    → Prints o₁ (cell_line (get_or cells i 0)) o₂ → Prints o (cell_lines (take (i + 1) cells)) o₂
+lines_next cells i h p q = rw (lines_more cells i h) (prints_both p q)
+
+pub lines_room : {o o₁ : Output} (cells : List ℕ) (n i : ℕ) → n ≤ length cells → i < n → Prints o (cell_lines (take i cells)) o₁
+    → HasRoom o (cell_lines (take n cells)) → HasRoom o₁ (cell_line (get_or cells i 0))
+lines_room cells n i h below p room =
+    omega (
+      arith,
+      length_lines (take i cells),
+      length_lines (take n cells),
+      length-take-le i cells (omega arith),
+      length-take-le n cells h,
+      length_line (get_or cells i 0),
+      same_length p.put,
+      p.put.next_is,
+    )
 
 pub numeral_short : (most n : ℕ) → length (numeral most n) ≤ most
 unfolding numeral
@@ -96,6 +125,15 @@ numeral_short zero n = omega arith
 numeral_short (suc most) n =
     by_test (λ front. length (front ++ (hex_digit_ascii (n % 10) ∷ [])) ≤ suc most) (ltb n 10) [] (numeral most (n / 10)) (λ _. omega arith)
     (λ _. simp length-append (omega (arith, numeral_short most (n / 10))))
+
+-- but for a halt and the limit the text is the number that a host sees
+pub numbered : (e : code.Ending) → (e ≡ variant.Halted → ⊥) → (e ≡ variant.Limit → ⊥) → ending_text (ending_of e) ≡ decimal (ending_number (ending_of e))
+unfolding ending_text ending_number
+numbered variant.Halted h l = absurd (h refl)
+numbered variant.Limit h l = absurd (l refl)
+numbered (variant.Trap t) h l = refl
+numbered variant.BufferFull h l = refl
+numbered variant.IllState h l = refl
 
 pub ending_short : (e : Ending) → length (ending_text e) ≤ 20
 unfolding ending_text

@@ -2,8 +2,7 @@
 use Rattle.std.specs.Prelude.{ℕ, zero, suc, ◌+◌, ◌/◌, ◌%◌, ◌≡◌, cond, List, [], ◌∷◌, ◌++◌, ltb, length}
 use Rattle.std.proofs.lemmas.List.Edits.{sets}
 use Rattle.io.specs.Digits.{hex_digit_ascii, last_digits}
-use Rattle.machine.specs.declared.Ending.{Ending}
-use Rattle.machine.specs.declared.Ending.TheVariants.{Halted, Limit, Number}
+use Rattle.machine.specs.Ending.{Ending, Halted, Limit, Number}
 
 abbrev pub line_end : List ℕ
 line_end = 10 ∷ []

@@ -1,100 +1,113 @@
-// The text of the lines that `runimage` prints, put into a lent text from an offset on. Each function returns the offset
-// behind what it wrote. They have a `requires`, that the line fits: only transcript calls them, and proves it.
+// The text of the lines that `runimage` prints, put into a lent text one behind the other. What prints has a `requires`,
+// that there is room: only transcript calls it, and proves it. It is no fmt::Write, which may fail and says nothing then.
 #![tactic(auto)]
 
-ghost use Rattle.std.specs.Prelude.{◌++◌, ◌+◌, ◌*◌, ◌≤◌, length, take};
+ghost use Rattle.std.specs.Prelude.{◌≡◌, ◌++◌, ◌*◌, ◌≤◌, length, take};
+ghost use Rattle.machine.specs.Ending.{ending_of};
 ghost use Rattle.tables.specs.Tables.{numbers_in};
-ghost use Rattle.report.specs.Text.{Put, decimal, cell_line, cell_lines, ending_text, end_line, refused_line};
+ghost use Rattle.report.specs.Outputs.{HasRoom, Prints};
+ghost use Rattle.report.specs.Text.{decimal, cell_line, cell_lines, ending_text, end_line, refused_line};
 
 use machine::Ending;
 use tables::number_at;
 
-// Bytes as they are.
-fn put(text: &mut [u8], at: usize, word: &[u8]) -> usize
-    requires { at + length word.now ≤ length text.old }
-    ensures { Put text.old at word.now text.new result }
-{
-    let end = at + word.len();
-    text[at..end].copy_from_slice(word);
-    end
-}
-
-// A word and a number.
-fn put_number(text: &mut [u8], at: usize, word: &[u8], number: u64) -> usize
-    requires { at + length (word.now ++ decimal number) ≤ length text.old }
-    ensures { Put text.old at (word.now ++ decimal number) text.new result }
-{
-    let mut digits = [0u8; 20];
-    let count = io::decimal(number, &mut digits);
-    let next = put(text, at, word);
-    put(text, next, &digits[..count])
-}
-
-// A dumped cell's line.
-pub fn put_cell_line(text: &mut [u8], at: usize, cell: u64) -> usize
-    requires { at + length (cell_line cell) ≤ length text.old }
-    ensures { Put text.old at (cell_line cell) text.new result }
-{
-    let mut digits = [0u8; 16];
-    let count = io::hex(cell, 16, &mut digits);
-    let next = put(text, at, &digits[..count]);
-    put(text, next, b"\n")
-}
-
-// The lines of the first n cells of a dump buffer.
-pub fn put_cell_lines(text: &mut [u8], at: usize, cells: &[u8], n: usize) -> usize
-    requires n_in_bounds { n * 8 ≤ length cells.now }
-    requires cells_in_bounds { at + length (cell_lines (take n (numbers_in cells.now))) ≤ length text.old }
-    ensures { Put text.old at (cell_lines (take n (numbers_in cells.now))) text.new result }
-{
-    let mut next = at;
-    let mut i = 0;
-    while i < n {
-        next = put_cell_line(text, next, number_at(cells, i));
-        i += 1;
-    }
-    next
-}
-
-// How the run ended.
-fn put_ending(text: &mut [u8], at: usize, ending: Ending) -> usize
-    requires { at + length (ending_text ending) ≤ length text.old }
-    ensures { Put text.old at (ending_text ending) text.new result }
-{
-    match ending {
-        Ending::Halted => put(text, at, b"halt"),
-        Ending::Limit => put(text, at, b"limit"),
-        Ending::Number(n) => put_number(text, at, b"", n as u64),
-    }
-}
-
-// The last line.
-pub fn put_end_line(
-    text: &mut [u8],
+// A lent text, and how many bytes of it are printed.
+#[derive(Drop)]
+pub struct Output<'a> {
+    text: &'a mut [u8],
     at: usize,
-    ending: Ending,
-    steps: u64,
-    ip: u64,
-    height: u64,
-    calls: u64,
-) -> usize
-    requires { at + length (end_line ending steps ip height calls) ≤ length text.old }
-    ensures { Put text.old at (end_line ending steps ip height calls) text.new result }
-{
-    let a = put(text, at, b"end ");
-    let b = put_ending(text, a, ending);
-    let c = put_number(text, b, b" steps ", steps);
-    let d = put_number(text, c, b" ip ", ip);
-    let e = put_number(text, d, b" height ", height);
-    let f = put_number(text, e, b" calls ", calls);
-    put(text, f, b"\n")
 }
 
-// A refused load's line.
-pub fn put_refused_line(text: &mut [u8], at: usize, number: u8) -> usize
-    requires { at + length (refused_line number) ≤ length text.old }
-    ensures { Put text.old at (refused_line number) text.new result }
-{
-    let next = put_number(text, at, b"refused ", number as u64);
-    put(text, next, b"\n")
+impl<'a> Output<'a> {
+    // Nothing is printed yet.
+    pub fn new(text: &'a mut [u8]) -> Output<'a>
+        ensures { result ≡ record { text = text.entry; at = 0 } }
+    {
+        Output { text, at: 0 }
+    }
+
+    // The bytes that are printed.
+    pub fn len(&self) -> usize
+        ensures { result ≡ self.now.at }
+    {
+        self.at
+    }
+
+    // Bytes as they are.
+    fn push(&mut self, word: &[u8])
+        requires { HasRoom self.old word.now }
+        ensures { Prints self.old word.now self.new }
+    {
+        let end = self.at + word.len();
+        self.text[self.at..end].copy_from_slice(word);
+        self.at = end;
+    }
+
+    // A word and a number.
+    fn number(&mut self, word: &[u8], number: u64)
+        requires { HasRoom self.old (word.now ++ decimal number) }
+        ensures { Prints self.old (word.now ++ decimal number) self.new }
+    {
+        let mut digits = [0u8; 20];
+        let count = io::decimal(number, &mut digits);
+        self.push(word);
+        self.push(&digits[..count]);
+    }
+
+    // A dumped cell's line.
+    pub fn cell_line(&mut self, cell: u64)
+        requires { HasRoom self.old (cell_line cell) }
+        ensures { Prints self.old (cell_line cell) self.new }
+    {
+        let mut digits = [0u8; 16];
+        let count = io::hex(cell, 16, &mut digits);
+        self.push(&digits[..count]);
+        self.push(b"\n");
+    }
+
+    // The lines of the first n cells of a dump buffer.
+    pub fn cell_lines(&mut self, cells: &[u8], n: usize)
+        requires n_in_bounds { n * 8 ≤ length cells.now }
+        requires room { HasRoom self.old (cell_lines (take n (numbers_in cells.now))) }
+        ensures { Prints self.old (cell_lines (take n (numbers_in cells.now))) self.new }
+    {
+        for i in 0..n {
+            self.cell_line(number_at(cells, i));
+        }
+    }
+
+    // How the run ended.
+    fn ending(&mut self, ending: Ending)
+        requires { HasRoom self.old (ending_text (ending_of ending)) }
+        ensures { Prints self.old (ending_text (ending_of ending)) self.new }
+    {
+        match ending {
+            Ending::Halted => self.push(b"halt"),
+            Ending::Limit => self.push(b"limit"),
+            _ => self.number(b"", u64::from(ending)),
+        }
+    }
+
+    // The last line.
+    pub fn end_line(&mut self, ending: Ending, steps: u64, ip: u64, height: u64, calls: u64)
+        requires { HasRoom self.old (end_line (ending_of ending) steps ip height calls) }
+        ensures { Prints self.old (end_line (ending_of ending) steps ip height calls) self.new }
+    {
+        self.push(b"end ");
+        self.ending(ending);
+        self.number(b" steps ", steps);
+        self.number(b" ip ", ip);
+        self.number(b" height ", height);
+        self.number(b" calls ", calls);
+        self.push(b"\n");
+    }
+
+    // A refused load's line.
+    pub fn refused_line(&mut self, number: u8)
+        requires { HasRoom self.old (refused_line number) }
+        ensures { Prints self.old (refused_line number) self.new }
+    {
+        self.number(b"refused ", u64::from(number));
+        self.push(b"\n");
+    }
 }

@@ -15,13 +15,16 @@ use Rattle.machine.specs.Limits.{image_limit, inst_limit, label_records}
 use Rattle.machine.specs.Load.{Loaded, Load, rejects, accepts, insts_after, fresh, count_of}
 use Rattle.machine.specs.Encode.{Encoded, unencoded, encoded}
 use Rattle.tables.specs.Tables.{insts_of, labels_of}
-use Rattle.loader.specs.declared.Loading.{Loading}
-use Rattle.loader.specs.declared.Loading.TheVariants as loading
+use Rattle.std.specs.Prelude.{Result, Ok, Err}
+use Rattle.loader.specs.declared.Accepted.{Accepted}
+use Rattle.loader.specs.declared.refusal.Refusal.{Refusal}
+use Rattle.loader.specs.declared.refusal.Refusal.TheVariants.{ImageTooLong, UndefinedByte, PastEnd, NameByte, TooManyInstructions, TooManyLabels, NoStart, Native, NoRoom}
+use Rattle.loader.specs.Refusals.{number_of}
 use Rattle.loader.specs.Loading.{Reply, refuses, starts, reply_of, fresh_at, load_of, insts_left, labels_left, FromBinary}
 use Rattle.loader.specs.Loading as loader
 use Rattle.loader.proofs.Left.{insts_left_lem}
-use Rattle.encoder.specs.declared.Written.{Written}
-use Rattle.encoder.specs.declared.Written.TheVariants as answer
+use Rattle.encoder.specs.declared.EncodeError.{EncodeError}
+use Rattle.encoder.specs.declared.EncodeError.TheVariants as unwritten
 use Rattle.encoder.specs.Encoder as encoder
 use Rattle.encoder.proofs.Answers.{other}
 use Rattle.rewritten.specs.Rewritten.{written_into, Writes, loaded_again, Rewritten}
@@ -34,19 +37,20 @@ abbrev number_in : Encoded → ℕ
 number_in (unencoded n) = n
 number_in (encoded n) = n
 
-means_size : (r : Written) (n : ℕ) → encoder.means r ≡ encoded n → r ≡ answer.Bytes n
+means_size : (r : Result ℕ EncodeError) (n : ℕ) → encoder.means r ≡ encoded n → r ≡ Ok n
 unfolding encoder.means
-means_size (answer.Refused m) n e = other m n e
-means_size (answer.Bytes m) n e = ap answer.Bytes (ap number_in e)
+means_size (Err e) n h = other (encoder.number_of e) n h
+means_size (Ok m) n h = ap Ok (ap number_in h)
 
-means_number : (r : Written) (n : ℕ) → encoder.means r ≡ unencoded n → r ≡ answer.Refused n
+means_no_room : (r : Result ℕ EncodeError) → encoder.means r ≡ unencoded 10 → r ≡ Err unwritten.NoRoom
 unfolding encoder.means
-means_number (answer.Refused m) n e = ap answer.Refused (ap number_in e)
-means_number (answer.Bytes m) n e = other n m (sym e)
+means_no_room (Err unwritten.IllFormed) h = let z : ◌≡◌ {A = ℕ} 9 10 = ap number_in h in absurd (omega arith)
+means_no_room (Err unwritten.NoRoom) h = refl
+means_no_room (Ok m) h = other 10 m (sym h)
 
-means_either : (r : Written) (n : ℕ) (b : Bool) → encoder.means r ≡ cond b (encoded n) (unencoded 10) → r ≡ cond b (answer.Bytes n) (answer.Refused 10)
+means_either : (r : Result ℕ EncodeError) (n : ℕ) (b : Bool) → encoder.means r ≡ cond b (encoded n) (unencoded 10) → r ≡ cond b (Ok n) (Err unwritten.NoRoom)
 means_either r n true e = means_size r n e
-means_either r n false e = means_number r 10 e
+means_either r n false e = means_no_room r e
 
 -- what is written is the output's front
 pub front : (written out : List ℕ) → length written ≤ length out → take (length written) (written_into written out) ≡ written
@@ -84,28 +88,41 @@ fresh_ip : (ip : ℕ) (l : Loaded) → fresh_at ip ≡ fresh l → ip ≡ l.ip
 unfolding fresh_at fresh
 fresh_ip ip l e = ap (λ (m : Machine). m.ip) e
 
-starts_as : (r : Loading) (l : Loaded) → loader.means r ≡ reply_of (accepts l) → r ≡ loading.Accepted l.ip (count_of l)
+starts_as : (r : Result Accepted Refusal) (l : Loaded) → loader.means r ≡ reply_of (accepts l) → r ≡ Ok (record { ip = l.ip; count = count_of l })
 unfolding loader.means reply_of
-starts_as (loading.Refused n) l e = unstarted n (fresh l) (count_of l) e
-starts_as (loading.Accepted ip count) l e =
-    let i = fresh_ip ip l (ap machine_in e) in
-    let n : count ≡ count_of l = ap count_in e in
-    rw (i, n)
+starts_as (Err x) l e = unstarted (number_of x) (fresh l) (count_of l) e
+starts_as (Ok a) l e =
+    let i = fresh_ip a.ip l (ap machine_in e) in
+    let n : a.count ≡ count_of l = ap count_in e in
+    let z : ◌≡◌ {A = Accepted} (record { ip = a.ip; count = a.count }) (record { ip = l.ip; count = count_of l }) = rw (i, n) in
+    ap Ok z
 
-refuses_as : (r : Loading) (n : ℕ) → loader.means r ≡ reply_of (rejects n) → r ≡ loading.Refused n
+-- one refusal has the number 1
+too_long : (x : Refusal) → number_of x ≡ 1 → x ≡ ImageTooLong
+too_long ImageTooLong e = refl
+too_long UndefinedByte e = cc
+too_long PastEnd e = cc
+too_long NameByte e = cc
+too_long TooManyInstructions e = cc
+too_long TooManyLabels e = cc
+too_long NoStart e = cc
+too_long Native e = cc
+too_long NoRoom e = cc
+
+refuses_as : (r : Result Accepted Refusal) → loader.means r ≡ reply_of (rejects 1) → r ≡ Err ImageTooLong
 unfolding loader.means reply_of
-refuses_as (loading.Refused m) n e = ap loading.Refused (ap count_in e)
-refuses_as (loading.Accepted ip count) n e = unstarted n (fresh_at ip) count (sym e)
+refuses_as (Err x) e = ap Err (too_long x (ap count_in e))
+refuses_as (Ok a) e = unstarted 1 (fresh_at a.ip) a.count (sym e)
 
-loads_either : (r : Loading) (l : Loaded) (n : ℕ) (b : Bool) → loader.means r ≡ reply_of (cond b (accepts l) (rejects n))
-    → r ≡ cond b (loading.Accepted l.ip (count_of l)) (loading.Refused n)
-loads_either r l n true e = starts_as r l e
-loads_either r l n false e = refuses_as r n e
+loads_either : (r : Result Accepted Refusal) (l : Loaded) (b : Bool) → loader.means r ≡ reply_of (cond b (accepts l) (rejects 1))
+    → r ≡ cond b (Ok (record { ip = l.ip; count = count_of l })) (Err ImageTooLong)
+loads_either r l true e = starts_as r l e
+loads_either r l false e = refuses_as r e
 
 -- ---- together
 
 module _ (image insts : List ℕ) (l : Loaded) (w : Rewritten image (insts_of insts) l) where
-  loads_again : (insts₂ labels₂ : List ℕ) (r : Loading) (insts₂' labels₂' : List ℕ) → inst_limit ≤ length (insts_of insts₂) → label_records ≤ length (labels_of labels₂)
+  loads_again : (insts₂ labels₂ : List ℕ) (r : Result Accepted Refusal) (insts₂' labels₂' : List ℕ) → inst_limit ≤ length (insts_of insts₂) → label_records ≤ length (labels_of labels₂)
       → FromBinary w.written insts₂ labels₂ r insts₂' labels₂' → LoadsAgain l l.ip (count_of l) w.written insts₂ labels₂ r insts₂' labels₂'
   loads_again insts₂ labels₂ r insts₂' labels₂' h k f =
       let e : load_of w.written insts₂ labels₂ ≡ loaded_again l w.written = w.loads_again (insts_of insts₂) (labels_of labels₂) h k in
@@ -113,7 +130,7 @@ module _ (image insts : List ℕ) (l : Loaded) (w : Rewritten image (insts_of in
       let same : length w.written ≤ image_limit → loaded_again l w.written ≡ accepts l =
       λ s. ap (λ (b : Bool). cond b (accepts l) (rejects 1)) (le-leb (length w.written) image_limit s) in
       record {
-        answer_is = loads_either r l 1 (leb (length w.written) image_limit) (f.answers ∙ ap reply_of e);
+        answer_is = loads_either r l (leb (length w.written) image_limit) (f.answers ∙ ap reply_of e);
         insts_are = insts_are;
         labels_are = f.labels_are ∙ ap (λ (x : Load). labels_left x labels₂) e;
         encodes_again = λ s. encodes w.written insts₂' (insts_of insts₂) l (count_of l) w.written
@@ -121,7 +138,7 @@ module _ (image insts : List ℕ) (l : Loaded) (w : Rewritten image (insts_of in
       }
 
 accepted : (image insts labels : List ℕ) (ip count : ℕ) (insts' : List ℕ) → Bytes image → (x : Load) → load_of image insts labels ≡ x
-    → loader.means (loading.Accepted ip count) ≡ reply_of x → insts' ≡ insts_left x insts → CallsRewritten image insts labels ip count insts'
+    → loader.means (Ok (record { ip = ip; count = count })) ≡ reply_of x → insts' ≡ insts_left x insts → CallsRewritten image insts labels ip count insts'
 unfolding loader.means reply_of
 accepted image insts labels ip count insts' bytes (rejects n) e a i = unstarted n (fresh_at ip) count (sym a)
 accepted image insts labels ip count insts' bytes (accepts l) e a i =

@@ -12,7 +12,7 @@ use borrow.Author.Tests.{ltb-true, ltb-false, leb-false, le-ltb, le-leb, lt-leb,
 use Rattle.word.specs.Words.{little_endian, number_of, word}
 use Rattle.word.proofs.Laws.{eight_from}
 use Rattle.inst.specs.declared.Inst.{Inst}
-use Rattle.inst.specs.Forms.{Form, none, eight, one, name, undefined, form_of, letter_of, within}
+use Rattle.inst.specs.Forms.{Form, none, eight, one, name, undefined, form_of, within}
 use Rattle.inst.specs.Records.{Bytes, plain, named, name_ok, part}
 use Rattle.inst.proofs.Laws.{by_test}
 use Rattle.inst.proofs.Table.{entry}
@@ -289,10 +289,10 @@ module _ (image : List ℕ) (at : ℕ) (bytes : Bytes image) where
   nameless w = slice_alike w image 0 0 (omega arith) (omega arith) (λ k h. absurd (not-suc-le-zero h))
 
   named_again : form_of first ≡ name → at + 9 ≤ length image → Again image at (read_name image at first (word image (at + 1)))
-  unfolding read_name as_bytes operand_bytes letter_of
+  unfolding read_name as_bytes operand_bytes
   named_again e h =
       let len = magnitude (word image (at + 1)) in
-      let n = not_one first name e (λ z. omega arith) in
+      let n = not_one first name e (λ z. cc) in
       let m : is_name (form_of first) ≡ true = rw e in
       by_test (Again image at) (is_negative (word image (at + 1))) _ _ (λ _. tt)
       (λ _. by_test (Again image at) (ltb (length image) (at + 9 + len)) _ _ (λ _. tt)
@@ -306,12 +306,12 @@ module _ (image : List ℕ) (at : ℕ) (bytes : Bytes image) where
       (λ _. tt)))
 
   operand_again : (f : Form) → form_of first ≡ f → at < length image → Again image at (read_operand image at first f)
-  unfolding read_operand as_bytes operand_bytes letter_of
+  unfolding read_operand as_bytes operand_bytes
   operand_again none e h =
-      let n = not_one first none e (λ z. omega arith) in
+      let n = not_one first none e (λ z. cc) in
       record { written = rw e (none_written image at bytes n); back = λ w a. none_again image at w a first refl e n; named = λ w a. nameless w }
   operand_again eight e h =
-      let n = not_one first eight e (λ z. omega arith) in
+      let n = not_one first eight e (λ z. cc) in
       by_test (Again image at) (ltb (length image) (at + 9)) _ _ (λ _. tt)
       (λ k. let l = ltb-false (length image) (at + 9) k in
       record { written = rw e (eight_written image at bytes n (rw e) l); back = λ w a. eight_again image at w l a first refl e n; named = λ w a. nameless w })

@@ -11,7 +11,7 @@ use lib.ListN.{length, get_or, get_or-eq_default}
 use borrow.Author.Tests.{ltb-true, ltb-false, leb-true, eqb-true}
 use Rattle.word.specs.Words.{word}
 use Rattle.inst.specs.declared.Inst.{Inst}
-use Rattle.inst.specs.Forms.{Form, none, eight, one, name, undefined, has_none, has_eight, has_one, has_name, form_of, letter_of, within}
+use Rattle.inst.specs.Forms.{Form, none, eight, one, name, undefined, has_none, has_eight, has_one, has_name, form_of, within}
 use Rattle.inst.specs.Records.{Bytes, name_ok, part}
 use Rattle.inst.proofs.Laws.{by_test, never, and_left, and_right}
 use Rattle.inst_decode.specs.Decode.{Answer, refused, reads, type_of, magnitude, is_negative, read_name, read_operand, from_bytes}
@@ -84,13 +84,9 @@ only_name one e = never e
 only_name name e = refl
 only_name undefined e = never e
 
-no_name_at_zero : letter_of (form_of 0) ≡ 45
-unfolding form_of has_none has_eight has_one has_name letter_of
+no_name_at_zero : form_of 0 ≡ none
+unfolding form_of has_none has_eight has_one has_name
 no_name_at_zero = refl
-
-name_letter : letter_of name ≡ 110
-unfolding letter_of
-name_letter = refl
 
 -- past the end there is no first byte 27, and none with a name
 module _ (image : List ℕ) (at : ℕ) where
@@ -107,8 +103,7 @@ module _ (image : List ℕ) (at : ℕ) where
       by : (b : Bool) → ltb at (length image) ≡ b → at < length image
       by true z = ltb-true _ _ z
       by false z =
-          let q : form_of 0 ≡ name = ap form_of (sym (get_or-eq_default image 0 {n = at} (ltb-false _ _ z))) ∙ e in
-          absurd (omega (arith, no_name_at_zero, ap letter_of q, name_letter))
+          let q : none ≡ name = sym no_name_at_zero ∙ ap form_of (sym (get_or-eq_default image 0 {n = at} (ltb-false _ _ z))) ∙ e in cc
 
 -- byte k belongs to the instruction that begins at `at`
 record Covered (image : List ℕ) (k : ℕ) : Type 0 where

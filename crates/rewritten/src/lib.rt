@@ -8,7 +8,7 @@ ghost use Rattle.rewritten.specs.Rewritten.{Theorems};
 ghost use Rattle.rewritten.specs.Calls.{ToBinary, EncodedSize, CallsAreRewritten};
 ghost use Rattle.rewritten.specs.Host.{HostTheorems};
 
-use encoder::Written;
+use encoder::EncodeError;
 use mm_host::Encoded;
 
 // No code: its contract states the theorems on the definitions.
@@ -17,14 +17,19 @@ pub fn rewritten_theorems()
 {}
 
 // A call of to_binary gives what the statement of the calls asks of an encoding.
-pub fn encode(image: &[u8], insts: &[u8], count: usize, out: &mut [u8]) -> Written
+pub fn encode(
+    image: &[u8],
+    insts: &[u8],
+    count: usize,
+    out: &mut [u8],
+) -> Result<usize, EncodeError>
     ensures { ToBinary image.now insts.now count out.old result out.new }
 {
     encoder::to_binary(image, insts, count, out)
 }
 
 // A call of encoded_size gives what it asks of the room.
-pub fn room(image: &[u8], insts: &[u8], count: usize) -> Written
+pub fn room(image: &[u8], insts: &[u8], count: usize) -> Result<usize, EncodeError>
     ensures { EncodedSize image.now insts.now count result }
 {
     encoder::encoded_size(image, insts, count)

@@ -13,8 +13,7 @@ use Rattle.word.specs.Words.{eight_of}
 use Rattle.tables.specs.Tables.{numbers_in, bytes_of}
 use Rattle.tables.proofs.Bytes.{length_numbers_in, number_set, length_bytes, bytes_append}
 use Rattle.machine.specs.declared.Machine.{Machine}
-use Rattle.machine.specs.declared.Ending.{Ending}
-use Rattle.machine.specs.declared.Ending.TheVariants.{Halted, Limit, Number}
+use Rattle.machine.specs.Ending.{Ending, Halted, Limit, Number}
 use Rattle.machine.specs.Lookup.{Program}
 use Rattle.machine.specs.Step.{ill, step, well_state}
 use Rattle.machine.specs.Run.{Course, ended, after, is_ill, turn, course}

@@ -13,7 +13,11 @@ use Rattle.tables.proofs.Bytes.{eight_long}
 use Rattle.inst.proofs.Parts.{lent_part}
 use borrow.Author.Tests.{eq-eqb, ne_eqb}
 use Rattle.machine.specs.declared.Machine.{Machine}
-use Rattle.machine.specs.declared.Ending.TheVariants.{Halted, Number}
+use Rattle.machine.specs.declared.Ending as code
+use Rattle.machine.specs.declared.Ending.TheVariants as variant
+use Rattle.machine.specs.Ending.{Halted, Number}
+use Rattle.machine.specs.declared.Trap.{Trap as Cause}
+use Rattle.machine.specs.Traps.{trap_number}
 use Rattle.machine.specs.Step.{Stepped, succeeds, outputs, trap, ill}
 use Rattle.machine.specs.Run.{Course, ended, after, is_ill, is_dump, taken, turn}
 use Rattle.step_core.specs.declared.Registers.{Registers}
@@ -21,18 +25,16 @@ use Rattle.step_core.specs.declared.Executed.{Executed}
 use Rattle.step_core.specs.declared.Executed.TheVariants.{Next, Compared, Dump, Halt, Trap, Ill}
 use Rattle.step_core.specs.Parts.{of_parts, Inside}
 use Rattle.quick.proofs.Turns.{before_ill, before_full, before_on}
-use Rattle.step.specs.declared.Tried.{Tried}
-use Rattle.run.specs.declared.follows.Turn.{Turn}
-use Rattle.run.specs.declared.follows.Turn.TheVariants.{Go, End}
-use Rattle.run.specs.Turns.{more, turned, Fills, Follows, FollowsTry, ending}
+use Rattle.std.specs.declared.ops.ControlFlow.{ControlFlow}
+use Rattle.std.specs.declared.ops.ControlFlow.TheVariants.{Continue, Break}
+use Rattle.run.specs.declared.progress.Progress.{Progress}
+use Rattle.run.specs.declared.progress.Outcome.{Outcome}
+use Rattle.run.specs.Turns.{more, turned, Fills, Follows}
 use Rattle.run.proofs.Courses.{more_next, more_dump, more_ended, more_last, took, cell_written}
 
 -- the answer is d
-pub for_answer : {a d : Executed} {c : Registers} {f left n : ℕ} {b b' : List ℕ} {r : Turn} → a ≡ d → Follows d c f left n b b' r → Follows a c f left n b b' r
+pub for_answer : {a d : Executed} {at : Progress} {b b' : List ℕ} {r : ControlFlow Outcome Progress} → a ≡ d → Follows d at b b' r → Follows a at b b' r
 for_answer e h = rw e h
-
-pub for_tried : {t d : Tried} {c : Registers} {f left n : ℕ} {b b' : List ℕ} {r : Turn} → t ≡ d → FollowsTry d c f left n b b' r → FollowsTry t c f left n b b' r
-for_tried e h = rw e h
 
 -- a step that is taken
 module _ (c : Registers) (f : ℕ) (s ca me : List ℕ) (rest : ℕ → Machine → Course) (left room : ℕ) (l : 0 < left) where
@@ -78,28 +80,40 @@ a_slot b n h l = omega arith
 none : (n : ℕ) (b : List ℕ) → n * 8 ≤ length b → Fills n b n b
 none n b h = record { filled = h; long = refl; written = λ b₀ e. e }
 
+-- a run's numbers
+abbrev pub progress : Registers → ℕ → ℕ → ℕ → Progress
+progress c f left n = record { regs = c; flags = f; left = left; dumped = n }
+
+abbrev pub outcome : Progress → code.Ending → Outcome
+outcome at e = record { at = at; ending = e }
+
 module _ (c : Registers) (f left n : ℕ) (b : List ℕ) (l : 0 < left) (h : n * 8 ≤ length b) where
-  pub after_next : (on : Registers) → Inside on → Follows (Next on) c f left n b b (Go on f n)
+  abbrev at : Progress
+  at = progress c f left n
+
+  pub after_next : (on : Registers) → Inside on → Follows (Next on) at b b (Continue (progress on f (left - 1) n))
   after_next on i =
       record {
         followed = (
           λ s ca me s' ca' me' rest k u. ap (more k (take n (numbers_in b))) (succeeded c f s ca me rest left (length b / 8 - n) l (of_parts on f s' ca' me' false)) ∙ more_next k (take n (numbers_in b)) _,
           i,
+          refl,
           none n b h,
         );
       }
 
-  pub after_compared : (on : Registers) (g : ℕ) → Inside on → Follows (Compared on g) c f left n b b (Go on g n)
+  pub after_compared : (on : Registers) (g : ℕ) → Inside on → Follows (Compared on g) at b b (Continue (progress on g (left - 1) n))
   after_compared on g i =
       record {
         followed = (
           λ s ca me s' ca' me' rest k u. ap (more k (take n (numbers_in b))) (succeeded c f s ca me rest left (length b / 8 - n) l (of_parts on g s' ca' me' false)) ∙ more_next k (take n (numbers_in b)) _,
           i,
+          refl,
           none n b h,
         );
       }
 
-  pub after_dump : n < length b / 8 → (on : Registers) (x : ℕ) → Inside on → Follows (Dump on x) c f left n b (sets b (n * 8) (eight_of x)) (Go on f (n + 1))
+  pub after_dump : n < length b / 8 → (on : Registers) (x : ℕ) → Inside on → Follows (Dump on x) at b (sets b (n * 8) (eight_of x)) (Continue (progress on f (left - 1) (n + 1)))
   after_dump g on x i =
       let z : length b / 8 - n ≡ 0 → ⊥ = λ e. omega arith in
       let e : length b / 8 - n - 1 ≡ length b / 8 - (n + 1) = omega arith in
@@ -111,11 +125,12 @@ module _ (c : Registers) (f left n : ℕ) (b : List ℕ) (l : 0 < left) (h : n *
               ∙ ap (λ (r : ℕ). more (k + 1) (take n (numbers_in b) ++ (x ∷ [])) (rest r (of_parts on f s' ca' me' false))) e
               ∙ ap (λ (out : List ℕ). more (k + 1) out (rest (length b / 8 - (n + 1)) (of_parts on f s' ca' me' false))) (sym (took b n x g)),
           i,
+          refl,
           record { filled = omega arith; long = eight_long b _ x; written = λ b₀ e. cell_written b b₀ n x g e },
         );
       }
 
-  pub after_full : length b / 8 ≤ n → (on : Registers) (x : ℕ) → Follows (Dump on x) c f left n b b (End (ending c f left n 2 33))
+  pub after_full : length b / 8 ≤ n → (on : Registers) (x : ℕ) → Follows (Dump on x) at b b (Break (outcome (progress c f left n) variant.BufferFull))
   after_full g on x =
       let z : length b / 8 - n ≡ 0 = omega arith in
       record {
@@ -125,12 +140,11 @@ module _ (c : Registers) (f left n : ℕ) (b : List ℕ) (l : 0 < left) (h : n *
               ∙ more_ended k (left - left) (take n (numbers_in b)) (Number 33) (of_parts c f s ca me false) (omega arith)
               ∙ rw (u.0, u.1, u.2) refl,
           omega arith,
-          refl,
           none n b h,
         );
       }
 
-  pub after_halt : (on : Registers) → Follows (Halt on) c f left n b b (End (ending on f (left - 1) n 0 0))
+  pub after_halt : (on : Registers) → Follows (Halt on) at b b (Break (outcome (progress on f (left - 1) n) variant.Halted))
   after_halt on =
       record {
         followed = (
@@ -139,25 +153,23 @@ module _ (c : Registers) (f left n : ℕ) (b : List ℕ) (l : 0 < left) (h : n *
               ∙ ap (λ (r : Course). more k (take n (numbers_in b)) (after [] r)) (q (length b / 8 - n) (of_parts on f s' ca' me' true) refl)
               ∙ more_last k (left - (left - 1)) (take n (numbers_in b)) Halted (of_parts on f s' ca' me' true) (omega arith),
           omega arith,
-          refl,
           none n b h,
         );
       }
 
-  pub after_trap : (on : Registers) (t : ℕ) → Follows (Trap on t) c f left n b b (End (ending on f (left - 1) n 2 t))
+  pub after_trap : (on : Registers) (t : Cause) → Follows (Trap on t) at b b (Break (outcome (progress on f (left - 1) n) (variant.Trap t)))
   after_trap on t =
       record {
         followed = (
           λ s ca me s' ca' me' rest k q u.
-              ap (more k (take n (numbers_in b))) (trapped c f s ca me rest left (length b / 8 - n) l t (of_parts on f s' ca' me' false))
-              ∙ more_last k (left - (left - 1)) (take n (numbers_in b)) (Number t) (of_parts on f s' ca' me' false) (omega arith),
+              ap (more k (take n (numbers_in b))) (trapped c f s ca me rest left (length b / 8 - n) l (trap_number t) (of_parts on f s' ca' me' false))
+              ∙ more_last k (left - (left - 1)) (take n (numbers_in b)) (Number (trap_number t)) (of_parts on f s' ca' me' false) (omega arith),
           omega arith,
-          refl,
           none n b h,
         );
       }
 
-  pub after_ill : Follows Ill c f left n b b (End (ending c f left n 2 34))
+  pub after_ill : Follows Ill at b b (Break (outcome (progress c f left n) variant.IllState))
   after_ill =
       record {
         followed = (
@@ -166,7 +178,6 @@ module _ (c : Registers) (f left n : ℕ) (b : List ℕ) (l : 0 < left) (h : n *
               ∙ more_ended k (left - left) (take n (numbers_in b)) (Number 34) (of_parts c f s ca me false) (omega arith)
               ∙ rw (u.0, u.1, u.2) refl,
           omega arith,
-          refl,
           none n b h,
         );
       }

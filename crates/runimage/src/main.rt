@@ -2,46 +2,16 @@
 // is in no contract; what is printed of an image is transcript's.
 #![tactic(auto)]
 
-ghost use Rattle.std.specs.Prelude.{length};
-ghost use Rattle.runimage.specs.Reading.{Fits};
-
+use input::read_full;
 use loader::IMAGE_LIMIT;
-use std::io::Read;
 
 // One byte more than an image may have: so many bytes are refused 1, as are more.
 const INPUT: usize = IMAGE_LIMIT + 1;
 
-// The bytes that were read, or none: an input that can't be read is no image.
-#[derive(Clone, Copy)]
-enum Input {
-    Image(usize),
-    Unreadable,
-}
-
-// Reads until the input ends or the buffer is full. A read that fails isn't tried again.
-#[tactic(auto, unfolding(crate::specs::Reading::Fits))]
-fn read_input(input: &mut impl Read, buffer: &mut [u8]) -> Input
-    ensures { Fits (length buffer.old) result }
-{
-    let mut at: usize = 0;
-    while at < buffer.len() {
-        let Ok(count) = input.read(&mut buffer[at..]) else {
-            return Input::Unreadable;
-        };
-        if count == 0 {
-            return Input::Image(at);
-        }
-        at += count;
-    }
-    Input::Image(at)
-}
-
-// What can't be written is passed over.
-#[tactic(auto, unfolding(crate::specs::Reading::Fits))]
+// An input that can't be read is no image. What can't be written is passed over.
 fn main(rt: HostRuntime) {
     let mut image = [0u8; INPUT];
-    let input = read_input(&mut rt.stdin(), &mut image);
-    let Input::Image(n) = input else {
+    let Ok(n) = read_full(&mut rt.stdin(), &mut image) else {
         let _ = rt.eprintln("runimage: standard input can't be read");
         return;
     };

@@ -1,31 +1,27 @@
 -- The instruction of a first byte. Assumes nothing.
-use Prim.Native.Nat.{ℕ, zero, suc, ◌+◌, ◌-◌, ◌<◌, ◌≤◌}
+use Prim.Native.Nat.{ℕ, zero, suc, ◌+◌, ◌<◌, ◌≤◌}
 use mathlib.Core.Path.{◌≡◌, refl}
-use mathlib.Core.Bool.{Bool, true, false, ◌&&◌, ◌||◌, and-false}
+use mathlib.Core.Bool.{Bool, true, false, ◌&&◌, ◌||◌}
 use mathlib.Core.List.{List, [], ◌∷◌}
 use mathlib.Core.Logic.{◌⊎◌, inl, inr}
-use Rattle.step_integer.specs.FirstBytes.{integer_of}
-use Rattle.step_float.specs.FirstBytes.{float_of}
-use Rattle.step_convert.specs.FirstBytes.{conversion_of}
 use native.Mathlib.Omega.{arith}
 use lib.Dec.{eqb, leb}
 use lib.ListN.{get_or}
-use borrow.Author.Tests.{ne_eqb, leb-true, lt-leb}
+use borrow.Author.Tests.{ne_eqb, leb-true}
+use Rattle.flag.specs.declared.Flag.{Flag}
+use Rattle.flag.specs.declared.Flag.TheVariants.{E, L, LE, G, GE, NE, Z, NZ}
+use Rattle.flag.specs.Jumps.{jump_of}
 use Rattle.inst.proofs.Laws.{never, and_left, and_right}
 use Rattle.machine.specs.Step.{Op, NOP, PUSH, POP, INC, DEC, CMP, SWAP, DUP, BOT, JCC, JMP, CALL, RET, DMP, READ, WRITE, HALT, integer, float, conversion, numbered, op_of}
 use Rattle.known.specs.Known.{looks_up}
 
--- the first bytes below 47 that execute_instruction names: one by one, and in ranges
-abbrev pub is_named_alone : ℕ → Bool
-is_named_alone op =
-    eqb op 1 || eqb op 2 || eqb op 3 || eqb op 4 || eqb op 9 || eqb op 10 || eqb op 11 || eqb op 22 || eqb op 27 || eqb op 46 || eqb op 29
+-- the first bytes below 47 that execute_instruction names
+abbrev pub is_named : ℕ → Bool
+is_named op =
+    eqb op 1 || eqb op 2 || eqb op 3 || eqb op 4 || eqb op 5 || eqb op 6 || eqb op 7 || eqb op 8 || eqb op 9 || eqb op 10 || eqb op 11
+    || eqb op 22 || eqb op 23 || eqb op 24 || eqb op 25 || eqb op 26 || eqb op 27 || eqb op 46 || eqb op 29
+    || eqb op 31 || eqb op 32 || eqb op 33 || eqb op 34 || eqb op 35 || eqb op 36
     || eqb op 38 || eqb op 40 || eqb op 42 || eqb op 44 || eqb op 39 || eqb op 41 || eqb op 43 || eqb op 45
-
-abbrev pub is_named_in_range : ℕ → Bool
-is_named_in_range op = (leb 5 op && leb op 8) || ((leb 23 op && leb op 26) || (leb 31 op && leb op 36))
-
-abbrev is_named : ℕ → Bool
-is_named op = is_named_alone op || is_named_in_range op
 
 abbrev is_nop : Op → Bool
 is_nop NOP = true
@@ -89,47 +85,32 @@ agrees_at (o ∷ os) i zero op e a h =
 agrees_at (o ∷ os) i (suc k) op e a h =
     agrees_at os (suc i) k op (omega arith) (and_right (is_nop o || (is_named i || looks_up i)) (agrees os (suc i)) a) h
 
-pub nop_at : (op : ℕ) → (op ≡ 69 → ⊥) → is_named_alone op ≡ false → is_named_in_range op ≡ false → looks_up op ≡ false → op_of op ≡ NOP
+pub nop_at : (op : ℕ) → (op ≡ 69 → ⊥) → is_named op ≡ false → looks_up op ≡ false → op_of op ≡ NOP
 unfolding op_of
-nop_at op n a r b =
-    let x : (is_named op || looks_up op) ≡ false = rw (a, r, b) refl in
+nop_at op n a b =
+    let x : (is_named op || looks_up op) ≡ false = rw (a, b) refl in
     rw (ne_eqb op 69 n) (agrees_at numbered 0 op op (omega arith) refl x)
 
--- a conditional jump: what looks up and is neither JMP nor CALL
-pub in_jumps : (op : ℕ) → looks_up op ≡ true → (op ≡ 20 → ⊥) → (op ≡ 28 → ⊥) → (12 ≤ op) × (op ≤ 19)
-in_jumps op l a b = from (leb 12 op) (leb op 20) refl refl (rw (ne_eqb op 28 b) at l)
+-- what looks up is CALL, a conditional jump or JMP
+pub jmp_is : (op : ℕ) → looks_up op ≡ true → (op ≡ 28 → ⊥) → (12 ≤ op → 19 < op) → op ≡ 20
+jmp_is op l b j = from (leb 12 op) (leb op 20) refl refl (rw (ne_eqb op 28 b) at l)
   where
-    from : (x y : Bool) → leb 12 op ≡ x → leb op 20 ≡ y → (x && y) ≡ true → (12 ≤ op) × (op ≤ 19)
-    from true true p q h = (leb-true 12 op p, omega (arith, leb-true op 20 q))
+    from : (x y : Bool) → leb 12 op ≡ x → leb op 20 ≡ y → (x && y) ≡ true → op ≡ 20
+    from true true p q h = omega (arith, j (leb-true 12 op p), leb-true op 20 q)
     from true false p q h = never h
     from false y p q h = never h
 
--- P of n numbers from i on, and of each of them
-abbrev Each : (ℕ → Type 0) → ℕ → ℕ → Type 0
-Each P i zero = Unit
-Each P i (suc n) = P i × Each P (suc i) n
-
-each : (P : ℕ → Type 0) (n i k op : ℕ) → Each P i n → k < n → op ≡ i + k → P op
-each P zero i k op h l e = absurd (omega arith)
-each P (suc n) i zero op h l e = let q : op ≡ i = omega arith in rw q h.0
-each P (suc n) i (suc k) op h l e = each P n (suc i) k op h.1 (omega arith) (omega arith)
-
--- the ranges of first bytes
-pub jcc_at : (op : ℕ) → 12 ≤ op → op ≤ 19 → op_of op ≡ JCC
+-- a flag's jump
+pub jcc_at : (f : Flag) → op_of (jump_of f) ≡ JCC
 unfolding op_of
-jcc_at op a b = each (λ (x : ℕ). op_of x ≡ JCC) 8 12 (op - 12) op (refl, (refl, (refl, (refl, (refl, (refl, (refl, (refl, tt)))))))) (omega arith) (omega arith)
-
-pub integer_at : (op : ℕ) → 5 ≤ op → op ≤ 8 → op_of op ≡ integer (integer_of op)
-unfolding op_of
-integer_at op a b = each (λ (x : ℕ). op_of x ≡ integer (integer_of x)) 4 5 (op - 5) op (refl, (refl, (refl, (refl, tt)))) (omega arith) (omega arith)
-
-pub float_at : (op : ℕ) → 23 ≤ op → op ≤ 26 → op_of op ≡ float (float_of op)
-unfolding op_of
-float_at op a b = each (λ (x : ℕ). op_of x ≡ float (float_of x)) 4 23 (op - 23) op (refl, (refl, (refl, (refl, tt)))) (omega arith) (omega arith)
-
-pub conversion_at : (op : ℕ) → 31 ≤ op → op ≤ 36 → op_of op ≡ conversion (conversion_of op)
-unfolding op_of
-conversion_at op a b = each (λ (x : ℕ). op_of x ≡ conversion (conversion_of x)) 6 31 (op - 31) op (refl, (refl, (refl, (refl, (refl, (refl, tt)))))) (omega arith) (omega arith)
+jcc_at E = refl
+jcc_at L = refl
+jcc_at LE = refl
+jcc_at G = refl
+jcc_at GE = refl
+jcc_at NE = refl
+jcc_at Z = refl
+jcc_at NZ = refl
 
 pub dump_at : (op : ℕ) → (op ≡ 27) ⊎ (op ≡ 46) → op_of op ≡ DMP
 unfolding op_of
@@ -149,10 +130,3 @@ write_at op (inl e) = rw e refl
 write_at op (inr (inl e)) = rw e refl
 write_at op (inr (inr (inl e))) = rw e refl
 write_at op (inr (inr (inr e))) = rw e refl
-
--- below a range, or above it
-pub below : (a b op : ℕ) → op < a → (leb a op && leb op b) ≡ false
-below a b op h = rw (lt-leb a op h) refl
-
-pub above : (a b op : ℕ) → b < op → (leb a op && leb op b) ≡ false
-above a b op h = rw (lt-leb op b h) (and-false (leb a op))

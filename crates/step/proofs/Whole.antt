@@ -18,21 +18,22 @@ use Rattle.tables.specs.Tables.{number_at, insts_of, inst_of}
 use Rattle.step_core.specs.declared.Registers.{Registers}
 use Rattle.step_core.specs.declared.Executed.{Executed}
 use Rattle.step_core.specs.declared.Executed.TheVariants.{Next, Compared, Dump, Halt, Trap, Ill}
-use Rattle.step_core.specs.declared.LookedUp.{LookedUp}
-use Rattle.step_core.specs.declared.LookedUp.TheVariants.{NotAsked, NoLabel, IllChain, Target}
-use Rattle.step_core.specs.Parts.{found_of, of_parts, Inside, Acts}
+use Rattle.std.specs.Prelude.{Option, Some, None, Ok, Err, IfOk}
+use Rattle.step_core.specs.Parts.{found_of, of_parts, Inside, Acts, LookedUp}
 use Rattle.lookup.specs.Walks.{lent_program}
 use Rattle.known.specs.Known.{looks_up, KnownAt, Over}
-use Rattle.known.proofs.Keeping.{IfTarget}
 use Rattle.known.proofs.Records.{inst_is, within}
 use Rattle.step.specs.Steps.{Made}
 
+-- nothing was found
+pub not_told : (asked : Option LookedUp) → ((found : LookedUp) → asked ≡ Some found → ⊥) → asked ≡ None
+not_told None h = refl
+not_told (Some found) h = absurd (h found refl)
+
 -- what holds of every target that was found
-pub at_target : (found : LookedUp) (Q : ℕ → Type 0) → ((t : ℕ) → found_of found ≡ leads_to t → Q t) → IfTarget found Q
-at_target NotAsked Q h = tt
-at_target NoLabel Q h = tt
-at_target IllChain Q h = tt
-at_target (Target t) Q h = h t refl
+pub at_target : (found : LookedUp) (Q : ℕ → Type 0) → ((t : ℕ) → found_of found ≡ leads_to t → Q t) → IfOk found Q
+at_target (Ok t) Q h = h t refl
+at_target (Err e) Q h = tt
 
 -- what looks up has a name
 named_from : (k op : ℕ) → k < 9 → op ≡ 12 + k → form_of op ≡ name

@@ -1,5 +1,5 @@
 -- What the general step comes to, whatever the labels are.
-use Rattle.std.specs.Prelude.{ℕ, ◌+◌, ◌*◌, ◌≡◌, true, false, List}
+use Rattle.std.specs.Prelude.{ℕ, ◌+◌, ◌*◌, ◌≡◌, true, false, List, Option, None, IfSome}
 use Rattle.inst.specs.Records.{name_in}
 use Rattle.machine.specs.declared.Machine.{Machine}
 use Rattle.machine.specs.declared.Label.{Label}
@@ -8,12 +8,12 @@ use Rattle.machine.specs.Step.{Stepped, step, exec, op_of}
 use Rattle.tables.specs.Tables.{number_at, inst, insts_of, inst_of}
 use Rattle.step_core.specs.declared.Registers.{Registers}
 use Rattle.step_core.specs.declared.Executed.{Executed}
-use Rattle.step_core.specs.declared.LookedUp.{LookedUp}
-use Rattle.step_core.specs.Parts.{of_parts, means, Small, Untaken, Acts, found_of, is_asked}
+use Rattle.step_core.specs.Parts.{of_parts, means, Small, Untaken, Acts, found_of, LookedUp}
 use Rattle.lookup.specs.Walks.{lent_program}
-use Rattle.known.specs.Known.{Known, Sized, Listed}
-use Rattle.step.specs.declared.Tried.{Tried}
-use Rattle.step.specs.declared.Tried.TheVariants.{Done, Asks}
+use Rattle.known.specs.declared.Known.{Known}
+use Rattle.known.specs.Known.{AllKnown, Listed}
+use Rattle.std.specs.Prelude.{Result, Ok, Err, IfOk}
+use Rattle.step.specs.declared.Name.{Name}
 
 -- with the flags f, the answer r means the step st; s' and so on are left of the arrays s, ca, me, and no step is taken unless they are as before
 pub record Made (st : Stepped) (f : ℕ) (s ca me : List ℕ) (r : Executed) (s' ca' me' : List ℕ) : Type 0 where
@@ -31,40 +31,33 @@ abbrev pub Executes : ℕ → ℕ → Registers → List ℕ → List ℕ → Li
 Executes op v c s ca me r s' ca' me' =
     (found : Found) (start len : ℕ) → Acts (λ (m : Machine). exec found (inst op v start len) m (op_of op)) c s ca me r s' ca' me'
 
--- a program over the table xs, whose instruction at the index ip has this name
-abbrev pub NamedAt : List ℕ → ℕ → ℕ → ℕ → Type 0
-NamedAt xs ip start len = (number_at xs (ip * 4 + 2) ≡ start) × (number_at xs (ip * 4 + 3) ≡ len)
+-- the instruction at the index ip of the table xs has this name
+abbrev pub NamedAt : List ℕ → ℕ → Name → Type 0
+NamedAt xs ip name = (number_at xs (ip * 4 + 2) ≡ name.start) × (number_at xs (ip * 4 + 3) ≡ name.len)
 
--- what `found` says of the instruction at the index ip: nothing, or what its lookup finds
-abbrev pub Told : Program → List ℕ → ℕ → LookedUp → Type 0
-Told p xs ip found = is_asked found ≡ true → found_of found ≡ lookup p (inst_of xs ip)
-
--- where a run goes on, the heights are within their limits
-abbrev pub SmallTried : Tried → Type 0
-SmallTried (Done a) = Small a
-SmallTried (Asks start len) = Unit
+-- what `asked` says of the instruction at the index ip: nothing, or what its lookup finds
+abbrev pub Told : Program → List ℕ → ℕ → Option LookedUp → Type 0
+Told p xs ip asked = IfSome asked (λ found. found_of found ≡ lookup p (inst_of xs ip))
 
 -- the arrays that a run lends: what it knows of its instructions, and the machine's three
 pub record Arrays : Type 0 where
-  pub keys : List ℕ
-  pub targets : List ℕ
+  pub known : Known
   pub stack : List ℕ
   pub calls : List ℕ
   pub memory : List ℕ
 
-abbrev pub arrays : List ℕ → List ℕ → List ℕ → List ℕ → List ℕ → Arrays
-arrays keys targets s ca me = record { keys = keys; targets = targets; stack = s; calls = ca; memory = me }
+abbrev pub arrays : Known → List ℕ → List ℕ → List ℕ → Arrays
+arrays known s ca me = record { known = known; stack = s; calls = ca; memory = me }
 
 -- the definition's step; or, with nothing changed, the lookup of the instruction's name is asked for
-abbrev pub IsTried : Program → List ℕ → Registers → ℕ → LookedUp → Arrays → Tried → Arrays → Type 0
-IsTried p xs c f found a (Done e) b =
+abbrev pub IsTried : Program → List ℕ → Registers → ℕ → Option LookedUp → Arrays → Result Executed Name → Arrays → Type 0
+IsTried p xs c f asked a (Ok e) b =
     Made (step p (of_parts c f a.stack a.calls a.memory false)) f a.stack a.calls a.memory e b.stack b.calls b.memory
-    × (Known p xs a.keys a.targets → Known p xs b.keys b.targets)
-IsTried p xs c f found a (Asks start len) b = (is_asked found ≡ false) × (name_in p.image start len ≡ true) × NamedAt xs c.ip start len × (b ≡ a)
+    × (AllKnown p xs a.known → AllKnown p xs b.known)
+IsTried p xs c f asked a (Err name) b = (asked ≡ None) × (name_in p.image name.start name.len ≡ true) × NamedAt xs c.ip name × (b ≡ a)
 
-pub record Tries (image xs : List ℕ) (count : ℕ) (c : Registers) (f : ℕ) (found : LookedUp) (a : Arrays) (r : Tried) (b : Arrays) : Type 0 where
-  pub small : SmallTried r
-  pub sized : Sized b.keys b.targets
-  pub listed : Listed xs b.keys b.targets
-  pub tried : (labels : List Label) → Told (lent_program image (insts_of xs) labels count) xs c.ip found →
-      IsTried (lent_program image (insts_of xs) labels count) xs c f found a r b
+pub record Tries (image xs : List ℕ) (count : ℕ) (c : Registers) (f : ℕ) (asked : Option LookedUp) (a : Arrays) (r : Result Executed Name) (b : Arrays) : Type 0 where
+  pub small : IfOk r Small
+  pub listed : Listed xs b.known
+  pub tried : (labels : List Label) → Told (lent_program image (insts_of xs) labels count) xs c.ip asked →
+      IsTried (lent_program image (insts_of xs) labels count) xs c f asked a r b

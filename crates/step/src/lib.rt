@@ -4,36 +4,35 @@
 #![tactic(auto)]
 
 ghost use Rattle.std.specs.Prelude.{◌≡◌, true, false, ◌+◌, ◌*◌, ◌≤◌, ◌<◌, length};
-ghost use Rattle.inst.specs.Forms.{form_table};
 ghost use Rattle.step_core.specs.Parts.{Inside, Tested, found_of};
-ghost use Rattle.known.specs.Known.{looks_up, Sized, Listed};
+ghost use Rattle.known.specs.Known.{looks_up, Listed};
 ghost use Rattle.step.specs.Steps.{arrays, Jumps, Executes, Tries};
 
-use inst::{TABLE_SIZE, ops};
-use known::{KNOWN_LIMIT, is_well_formed_at, keep_jump, learn, looks_up};
+use flag::Flag;
+use inst::ops;
+use known::{Known, is_well_formed_at, looks_up};
 use machine::{CALL_LIMIT, MEMORY_SIZE, STACK_LIMIT};
-use step_convert::convert;
-use step_core::{Executed, LookedUp, Registers, is_asked, onward};
-use step_float::float_step;
+use step_convert::{Conversion, convert};
+use step_core::{Executed, LookupError, Registers, onward};
+use step_float::{Float, float_step};
 use step_flow::calls::{call, ret};
 use step_flow::dumps::dump;
 use step_flow::jumps::{compare, jump, jump_if};
-use step_integer::integer_step;
+use step_integer::{Integer, integer_step};
 use step_stack::cells;
 use tables::number_at;
 
-// A step's answer; or the start and length of the name whose lookup it needs.
+// A name in the image.
 #[derive(Clone, Copy)]
-pub enum Tried {
-    Done(Executed),
-    Asks { start: u64, len: u64 },
+pub struct Name {
+    pub start: u64,
+    pub len: u64,
 }
 
-// A jump or CALL, by what its lookup found. Tests and not arms: the compiler copies arms into the run's loop, with a jump through a
-// table behind each.
+// A jump or CALL, by what its lookup found.
 fn execute_jump(
     op: u64,
-    found: LookedUp,
+    found: Result<usize, LookupError>,
     flags: u8,
     regs: Registers,
     calls: &mut [u64; CALL_LIMIT],
@@ -44,14 +43,13 @@ fn execute_jump(
     if op == ops::CALL {
         return call(regs, calls, found);
     }
-    if op == ops::JMP {
-        return jump(regs, found);
+    match Flag::of_jump(op) {
+        Some(tested) => jump_if(regs, flags, tested, found),
+        None => jump(regs, found),
     }
-    jump_if(regs, flags, op, found)
 }
 
-// Any other instruction. The ranges stay: with an arm for each first byte here the quick loop's code moves, and takes 1.9
-// instead of 1.6 ns a step.
+// Any other instruction.
 fn execute_instruction(
     op: u64,
     v: u64,
@@ -66,17 +64,28 @@ fn execute_instruction(
     match op {
         ops::PUSH => cells::push(regs, stack, v),
         ops::POP => cells::pop(regs),
-        ops::INC => cells::inc(regs, stack),
-        ops::DEC => cells::dec(regs, stack),
-        ops::IADD..=ops::IDIV => integer_step(regs, stack, op),
+        ops::INC => cells::adjust(regs, stack, integer::inc),
+        ops::DEC => cells::adjust(regs, stack, integer::dec),
+        ops::IADD => integer_step(regs, stack, Integer::IADD),
+        ops::ISUB => integer_step(regs, stack, Integer::ISUB),
+        ops::IMUL => integer_step(regs, stack, Integer::IMUL),
+        ops::IDIV => integer_step(regs, stack, Integer::IDIV),
         ops::CMP => compare(regs, stack),
         ops::SWAP => cells::swap(regs, stack, v),
         ops::DUP => cells::dup(regs, stack, v),
         ops::BOT => cells::bot(regs, stack),
-        ops::FADD..=ops::FDIV => float_step(regs, stack, op),
+        ops::FADD => float_step(regs, stack, Float::FADD),
+        ops::FSUB => float_step(regs, stack, Float::FSUB),
+        ops::FMUL => float_step(regs, stack, Float::FMUL),
+        ops::FDIV => float_step(regs, stack, Float::FDIV),
         ops::IDMP | ops::FDMP => dump(regs, stack, v),
         ops::RET => ret(regs, calls),
-        ops::F2I..=ops::U2F => convert(regs, stack, op),
+        ops::F2I => convert(regs, stack, Conversion::F2I),
+        ops::F2U => convert(regs, stack, Conversion::F2U),
+        ops::I2F => convert(regs, stack, Conversion::I2F),
+        ops::I2U => convert(regs, stack, Conversion::I2U),
+        ops::U2I => convert(regs, stack, Conversion::U2I),
+        ops::U2F => convert(regs, stack, Conversion::U2F),
         ops::READ8 | ops::READ16 | ops::READ32 | ops::READ64 => step_memory::read(
             regs, stack, memory,
         ),
@@ -88,53 +97,43 @@ fn execute_instruction(
     }
 }
 
-// The step at the pointer. `found` is what was found for its name, if it was looked up. Heights within their limits
-// and a count within its table were tested once, before the first step: no step breaks them.
+// The step at the pointer, or the name that has to be looked up before it. `asked` is what was found for that name, if it was.
+// Heights within their limits and a count within its table were tested once, before the first step: no step breaks them.
 pub fn step(
-    forms: &[u8; TABLE_SIZE],
     image: &[u8],
     insts: &[u8],
     count: usize,
-    keys: &mut [u8; KNOWN_LIMIT],
-    targets: &mut [u16; KNOWN_LIMIT],
+    known: &mut Known,
     flags: u8,
     regs: Registers,
-    found: LookedUp,
+    asked: Option<Result<usize, LookupError>>,
     stack: &mut [u64; STACK_LIMIT],
     calls: &mut [u64; CALL_LIMIT],
     memory: &mut [u8; MEMORY_SIZE],
-) -> Tried
-    requires forms_value { forms.now ≡ form_table }
-    requires inside { Inside regs × (count * 32 ≤ length insts.now) × Sized keys.old targets.old × Listed insts.now keys.old targets.old }
-    ensures { Tries image.now insts.now count regs flags found (arrays keys.old targets.old stack.old calls.old memory.old) result (arrays keys.new targets.new stack.new calls.new memory.new) }
+) -> Result<Executed, Name>
+    requires inside { Inside regs × (count * 32 ≤ length insts.now) × Listed insts.now known.old }
+    ensures { Tries image.now insts.now count regs flags asked (arrays known.old stack.old calls.old memory.old) result (arrays known.new stack.new calls.new memory.new) }
 {
     let ip = regs.ip;
     if count <= ip {
-        return Tried::Done(Executed::Ill);
+        return Ok(Executed::Ill);
     }
-    if !is_well_formed_at(forms, image, insts, ip) {
-        return Tried::Done(Executed::Ill);
+    if !is_well_formed_at(image, insts, ip) {
+        return Ok(Executed::Ill);
     }
     let op = number_at(insts, ip * 4);
     if looks_up(op) {
-        if !is_asked(found) {
-            return Tried::Asks {
+        let Some(found) = asked else {
+            return Err(Name {
                 start: number_at(insts, ip * 4 + 2),
                 len: number_at(insts, ip * 4 + 3),
-            };
-        }
+            });
+        };
         let answer = execute_jump(op, found, flags, regs, calls);
-        keep_jump(keys, targets, ip, op, found);
-        Tried::Done(answer)
+        known.keep_jump(ip, op, found);
+        Ok(answer)
     } else {
-        learn(forms, image, insts, count, keys, ip);
-        Tried::Done(execute_instruction(
-            op,
-            number_at(insts, ip * 4 + 1),
-            regs,
-            stack,
-            calls,
-            memory,
-        ))
+        known.learn(image, insts, count, ip);
+        Ok(execute_instruction(op, number_at(insts, ip * 4 + 1), regs, stack, calls, memory))
     }
 }

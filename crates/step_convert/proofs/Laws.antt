@@ -1,4 +1,5 @@
 -- The trap of a conversion by the cell's type, and the definition of the conversions by their trap. Assumes nothing.
+use Rattle.std.specs.Prelude.{Result, Ok, Err}
 use Prim.Native.Nat.{ℕ, ◌^◌, ◌<◌}
 use mathlib.Core.Path.{◌≡◌, refl, sym, ◌∙◌, ap}
 use mathlib.Core.Bool.{Bool, true, false, cond, not, ◌||◌}
@@ -12,25 +13,36 @@ use Rattle.nan.specs.declared.CellType.TheVariants.{F64, I64, U64, Ptr, Unknown}
 use Rattle.nan.specs.Cells as cells
 use Rattle.nan.proofs.Laws.{kept, abs_value, mag_abs, below, above}
 use Rattle.machine.specs.declared.Machine.{Machine}
+use Rattle.machine.specs.declared.Trap.{Trap}
+use Rattle.machine.specs.declared.Trap.TheVariants.{WrongType, NegativeConversion, UnknownType}
+use Rattle.machine.specs.Traps.{trap_number}
 use Rattle.machine.specs.Step.{Stepped, succeeds, trap, ◌must◌else◌then◌, type_known, whole, number_of, minus, convert, Conversion, F2I, F2U, I2F, I2U, U2I, U2F, rule_of}
 use Rattle.machine.specs.Change.{onward, top, popped, replaced}
-use Rattle.step_convert.specs.FirstBytes.{conversion_trap}
+use Rattle.step_convert.specs.declared.Conversion.{Conversion as Kind}
+use Rattle.step_convert.specs.declared.Conversion.TheVariants as kinds
+use Rattle.step_convert.specs.Kinds.{conversion_of, converted}
 use Rattle.machine.proofs.Tests.{passes, fails}
+
+-- a conversion that gives the cell c
+abbrev pub given : ℕ → Result ℕ Trap
+given c = Ok c
 
 -- ---- by the cell's type
 
 module _ (c : ℕ) where
-  -- no conversion after F2U takes an F64
-  pub late_float : (x y z : Bool) → cells.type_of c ≡ F64 → conversion_trap (cond x I2F (cond y I2U (cond z U2I U2F))) c ≡ 28
-  unfolding conversion_trap rule_of number_of
-  late_float true y z e = simp e
-  late_float false true z e = simp e
-  late_float false false true e = simp e
-  late_float false false false e = simp e
+  -- only F2I and F2U take an F64
+  pub late_float : (k : Kind) → (k ≡ kinds.F2I → ⊥) → (k ≡ kinds.F2U → ⊥) → cells.type_of c ≡ F64 → converted (conversion_of k) c ≡ Err WrongType
+  unfolding converted rule_of number_of
+  late_float kinds.F2I i u e = absurd (i refl)
+  late_float kinds.F2U i u e = absurd (u refl)
+  late_float kinds.I2F i u e = simp e
+  late_float kinds.I2U i u e = simp e
+  late_float kinds.U2I i u e = simp e
+  late_float kinds.U2F i u e = simp e
 
   -- none takes a Ptr or an unknown cell
-  pub no_ptr : (k : Conversion) → cells.type_of c ≡ Ptr → conversion_trap k c ≡ 28
-  unfolding conversion_trap rule_of number_of
+  pub no_ptr : (k : Conversion) → cells.type_of c ≡ Ptr → converted k c ≡ Err WrongType
+  unfolding converted rule_of number_of
   no_ptr F2I e = simp e
   no_ptr F2U e = simp e
   no_ptr I2F e = simp e
@@ -38,8 +50,8 @@ module _ (c : ℕ) where
   no_ptr U2I e = simp e
   no_ptr U2F e = simp e
 
-  pub no_unknown : (k : Conversion) → cells.type_of c ≡ Unknown → conversion_trap k c ≡ 31
-  unfolding conversion_trap number_of
+  pub no_unknown : (k : Conversion) → cells.type_of c ≡ Unknown → converted k c ≡ Err UnknownType
+  unfolding converted number_of
   no_unknown k e = simp e
 
 -- I64 and U64 are known, and aren't F64
@@ -58,11 +70,15 @@ module _ (t : CellType) (h : (eqb (number_of t) (number_of I64) || eqb (number_o
   pub whole_float : eqb (number_of t) (number_of F64) ≡ false
   whole_float = (whole_types t refl).1
 
--- U2I and U2F take every whole cell
-pub late_whole : (c : ℕ) (x : Bool) → whole c ≡ true → conversion_trap (cond x U2I U2F) c ≡ 0
-unfolding conversion_trap rule_of
-late_whole c true e = simp (whole_known (cells.type_of c) e, e)
-late_whole c false e = simp (whole_known (cells.type_of c) e, e)
+-- F2I and F2U take no whole cell
+pub late_whole : (k : Kind) (c : ℕ) → (k ≡ kinds.I2F → ⊥) → (k ≡ kinds.I2U → ⊥) → (k ≡ kinds.U2I → ⊥) → (k ≡ kinds.U2F → ⊥) → whole c ≡ true → converted (conversion_of k) c ≡ Err WrongType
+unfolding converted rule_of
+late_whole kinds.F2I c f u i v e = simp (whole_known (cells.type_of c) e, whole_float (cells.type_of c) e)
+late_whole kinds.F2U c f u i v e = simp (whole_known (cells.type_of c) e, whole_float (cells.type_of c) e)
+late_whole kinds.I2F c f u i v e = absurd (f refl)
+late_whole kinds.I2U c f u i v e = absurd (u refl)
+late_whole kinds.U2I c f u i v e = absurd (i refl)
+late_whole kinds.U2F c f u i v e = absurd (v refl)
 
 -- ---- the code's test for below zero
 
@@ -78,35 +94,40 @@ module _ (c : ℕ) (z : ℤ) (is : z ≡ cells.value c) where
   unfolding minus
   not_minus e = ap minus (sym is ∙ above z small e)
 
--- ---- the tests of a conversion come to its trap, or to none
+-- ---- the tests of a conversion come to its cell, or to its trap
 
-module _ (p : Machine) (rest : Stepped) where
-  stops : (kn ta be : Bool) (t : ℕ) → t ≡ cond kn (cond ta (cond be 29 0) 28) 31 → (t ≡ 0 → ⊥) →
-      (p must kn else 31 then p must ta else 28 then p must not be else 29 then rest) ≡ trap t p
-  unfolding ◌must◌else◌then◌
-  stops false ta be t e z = rw e
-  stops true false be t e z = rw e
-  stops true true true t e z = rw e
-  stops true true false t e z = absurd (z e)
+module _ (p : Machine) (on : ℕ → Stepped) where
+  pub come_to : Result ℕ Trap → Stepped
+  come_to (Ok c) = on c
+  come_to (Err t) = trap (trap_number t) p
 
-  goes : (kn ta be : Bool) (t : ℕ) → t ≡ cond kn (cond ta (cond be 29 0) 28) 31 → t ≡ 0 →
-      (p must kn else 31 then p must ta else 28 then p must not be else 29 then rest) ≡ rest
-  unfolding ◌must◌else◌then◌
-  goes false ta be t e z = absurd (omega arith)
-  goes true false be t e z = absurd (omega arith)
-  goes true true true t e z = absurd (omega arith)
-  goes true true false t e z = refl
+  by_tests : (kn ta be : Bool) (gives : ℕ) →
+      (p must kn else 31 then p must ta else 28 then p must not be else 29 then on gives) ≡ come_to (cond kn (cond ta (cond be (Err NegativeConversion) (Ok gives)) (Err WrongType)) (Err UnknownType))
+  unfolding ◌must◌else◌then◌ come_to
+  by_tests false ta be g = refl
+  by_tests true false be g = refl
+  by_tests true true true g = refl
+  by_tests true true false g = refl
 
 module _ (k : Conversion) (m : Machine) where
   pub convert_short : ltb 0 m.height ≡ false → convert k m ≡ trap 20 m
   unfolding convert
   convert_short h = fails _ _ _ _ h
 
-  module _ (h : ltb 0 m.height ≡ true) (t : ℕ) (e : t ≡ conversion_trap k (top m)) where
-    pub convert_traps : (t ≡ 0 → ⊥) → convert k m ≡ trap t (popped m)
-    unfolding convert conversion_trap
-    convert_traps z = passes _ _ _ _ h ∙ stops _ _ (type_known (top m)) (rule_of k (top m)).takes (rule_of k (top m)).below t e z
+  module _ (h : ltb 0 m.height ≡ true) (r : Result ℕ Trap) (e : r ≡ converted k (top m)) where
+    onto : ℕ → Stepped
+    onto c = succeeds (onward (replaced c m))
 
-    pub convert_does : t ≡ 0 → convert k m ≡ succeeds (onward (replaced (rule_of k (top m)).gives m))
-    unfolding convert conversion_trap
-    convert_does z = passes _ _ _ _ h ∙ goes _ _ (type_known (top m)) (rule_of k (top m)).takes (rule_of k (top m)).below t e z
+    convert_is : convert k m ≡ come_to (popped m) onto r
+    unfolding convert converted onto
+    convert_is =
+        passes _ _ _ _ h ∙ by_tests _ onto (type_known (top m)) (rule_of k (top m)).takes (rule_of k (top m)).below (rule_of k (top m)).gives
+        ∙ ap (come_to (popped m) onto) (sym e)
+
+    pub convert_traps : (t : Trap) → r ≡ Err t → convert k m ≡ trap (trap_number t) (popped m)
+    unfolding come_to
+    convert_traps t z = convert_is ∙ ap (come_to (popped m) onto) z
+
+    pub convert_does : (c : ℕ) → r ≡ Ok c → convert k m ≡ succeeds (onward (replaced c m))
+    unfolding come_to onto
+    convert_does c z = convert_is ∙ ap (come_to (popped m) onto) z

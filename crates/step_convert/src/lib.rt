@@ -1,5 +1,5 @@
-// F2I, F2U, I2F, I2U, U2I, U2F: first bytes 31 to 36. Where the function is called with a literal first byte, the compiler
-// keeps only that instruction's part. Only our own steps call it: it requires what a step has tested before.
+// F2I, F2U, I2F, I2U, U2I, U2F. Where the function is called with a literal kind, the compiler keeps only that
+// instruction's part. Only our own steps call it: it requires what a step has tested before.
 #![tactic(auto)]
 
 ghost use Rattle.std.specs.Prelude.{◌≡◌, true, false, ◌*◌, ◌^◌, nat_abs};
@@ -8,68 +8,60 @@ ghost use Rattle.nan.specs.Cells as cells;
 ghost use Rattle.nan.specs.declared.CellType.TheVariants.{F64};
 ghost use Rattle.machine.specs.Step as definition;
 ghost use Rattle.step_core.specs.Parts.{Tested, OnStack};
-ghost use Rattle.step_convert.specs.FirstBytes.{conversion_of, conversion_trap};
+ghost use Rattle.step_convert.specs.Kinds.{conversion_of, converted};
 
-use inst::ops;
-use machine::{STACK_LIMIT, traps};
+use machine::{STACK_LIMIT, Trap};
 use nan::CellType;
 use step_core::{Executed, Registers, onward, trap};
 
-const NO_TRAP: u8 = 0;
-
-// The trap of a conversion on an F64: 29 of F2U, 28 of those that take whole numbers, or 0.
-fn float_trap(op: u64, cell: u64) -> u8
-    ensures { cells.type_of cell ≡ F64 → result ≡ conversion_trap (conversion_of op) cell }
-{
-    match op {
-        ops::F2I => NO_TRAP,
-        ops::F2U => {
-            if float64::is_below_zero(cell) {
-                traps::FAILED_CONVERSION
-            } else {
-                NO_TRAP
-            }
-        }
-        _ => traps::INVALID_TYPE,
-    }
+#[derive(Clone, Copy, PartialEq, Eq)]
+pub enum Conversion {
+    F2I,
+    F2U,
+    I2F,
+    I2U,
+    U2I,
+    U2F,
 }
 
-// The trap of a conversion on an I64 or a U64, or 0.
-fn whole_trap(op: u64, cell: u64) -> u8
-    ensures { definition.whole cell ≡ true → result ≡ conversion_trap (conversion_of op) cell }
-{
-    match op {
-        ops::F2I => traps::INVALID_TYPE,
-        ops::F2U => traps::INVALID_TYPE,
-        ops::I2F => {
-            if nan::get_value(cell) < 0 {
-                traps::FAILED_CONVERSION
-            } else {
-                NO_TRAP
-            }
+impl Conversion {
+    // What the conversion makes of an F64.
+    fn of_float(self, cell: u64) -> Result<u64, Trap>
+        ensures { cells.type_of cell ≡ F64 → result ≡ converted (conversion_of self) cell }
+    {
+        match self {
+            Conversion::F2I => Ok(nan::from_i64(float64::to_i64(cell))),
+            Conversion::F2U if float64::is_below_zero(cell) => Err(Trap::NegativeConversion),
+            Conversion::F2U => Ok(nan::from_u64(float64::to_u64(cell))),
+            _ => Err(Trap::WrongType),
         }
-        ops::I2U => {
-            if nan::get_value(cell) < 0 {
-                traps::FAILED_CONVERSION
-            } else {
-                NO_TRAP
-            }
-        }
-        _ => NO_TRAP,
     }
-}
 
-// The trap of a conversion, 31, 28, 29, or 0.
-fn conversion_trap(op: u64, cell: u64) -> u8
-    ensures { result ≡ conversion_trap (conversion_of op) cell }
-{
-    let t = nan::get_type(cell);
-    match t {
-        CellType::F64 => float_trap(op, cell),
-        CellType::I64 => whole_trap(op, cell),
-        CellType::U64 => whole_trap(op, cell),
-        CellType::Ptr => traps::INVALID_TYPE,
-        CellType::Unknown => traps::UNKNOWN_TYPE,
+    // What it makes of an I64 or a U64.
+    fn of_whole(self, cell: u64) -> Result<u64, Trap>
+        ensures { definition.whole cell ≡ true → result ≡ converted (conversion_of self) cell }
+    {
+        let value = nan::get_value(cell);
+        match self {
+            Conversion::I2F if value < 0 => Err(Trap::NegativeConversion),
+            Conversion::I2F => Ok(i2f(cell)),
+            Conversion::I2U if value < 0 => Err(Trap::NegativeConversion),
+            Conversion::I2U => Ok(nan::from_u64(nan::as_u64(cell))),
+            Conversion::U2I => Ok(nan::from_i64(value)),
+            Conversion::U2F => Ok(float64::from_u64(nan::as_u64(cell))),
+            _ => Err(Trap::WrongType),
+        }
+    }
+
+    fn of_cell(self, cell: u64) -> Result<u64, Trap>
+        ensures { result ≡ converted (conversion_of self) cell }
+    {
+        match nan::get_type(cell) {
+            CellType::F64 => self.of_float(cell),
+            CellType::I64 | CellType::U64 => self.of_whole(cell),
+            CellType::Ptr => Err(Trap::WrongType),
+            CellType::Unknown => Err(Trap::UnknownType),
+        }
     }
 }
 
@@ -81,35 +73,22 @@ fn i2f(cell: u64) -> u64
     float64::from_u64(cell % 0x1000000000000)
 }
 
-fn converted(op: u64, cell: u64) -> u64
-    ensures { result ≡ (definition.rule_of (conversion_of op) cell).gives }
-{
-    match op {
-        ops::F2I => nan::from_i64(float64::to_i64(cell)),
-        ops::F2U => nan::from_u64(float64::to_u64(cell)),
-        ops::I2F => i2f(cell),
-        ops::I2U => nan::from_u64(nan::as_u64(cell)),
-        ops::U2I => nan::from_i64(nan::get_value(cell)),
-        _ => float64::from_u64(nan::as_u64(cell)),
-    }
-}
-
-pub fn convert(regs: Registers, stack: &mut [u64; STACK_LIMIT], op: u64) -> Executed
+// The hint lets the compiler take F2I, the largest, into the quick loop: a call there costs every image.
+#[inline]
+pub fn convert(regs: Registers, stack: &mut [u64; STACK_LIMIT], k: Conversion) -> Executed
     requires { Tested regs }
-    ensures { OnStack (definition.convert (conversion_of op)) regs stack.old result stack.new }
+    ensures { OnStack (definition.convert (conversion_of k)) regs stack.old result stack.new }
 {
     let height = regs.height;
-    if 0 < height {
-        let last = height - 1;
-        let cell = stack[last];
-        let t = conversion_trap(op, cell);
-        if t == NO_TRAP {
-            stack[last] = converted(op, cell);
+    if height == 0 {
+        return trap(regs, height, Trap::StackUnderflow);
+    }
+    let last = height - 1;
+    match k.of_cell(stack[last]) {
+        Ok(cell) => {
+            stack[last] = cell;
             onward(regs, height)
-        } else {
-            trap(regs, last, t)
         }
-    } else {
-        trap(regs, height, traps::STACK_UNDERFLOW)
+        Err(t) => trap(regs, last, t),
     }
 }

@@ -4,6 +4,8 @@ use mathlib.Core.Path.{◌≡◌, refl, ◌∙◌, sym}
 use mathlib.Core.List.{List}
 use mathlib.Core.Bool.{false}
 use Rattle.machine.specs.declared.Machine.{Machine}
+use Rattle.machine.specs.declared.Trap.{Trap as Cause}
+use Rattle.machine.specs.Traps.{trap_number}
 use Rattle.machine.specs.Step.{Stepped, succeeds, trap, ill}
 use Rattle.step_core.specs.declared.Registers.{Registers}
 use Rattle.step_core.specs.declared.Executed.{Executed}
@@ -17,8 +19,8 @@ module _ {i : Machine → Stepped} {c : Registers} {s ca me : List ℕ} {r : Exe
   success e d h = rw e (record { does = d; small = h; kept = tt })
 
   -- a trap, with no array changed
-  pub trapped : {n : Registers} {t : ℕ} → r ≡ Trap n t →
-      ((f : ℕ) → trap t (of_parts n f s ca me false) ≡ i (of_parts c f s ca me false)) → Acts i c s ca me r s ca me
+  pub trapped : {n : Registers} {t : Cause} → r ≡ Trap n t →
+      ((f : ℕ) → trap (trap_number t) (of_parts n f s ca me false) ≡ i (of_parts c f s ca me false)) → Acts i c s ca me r s ca me
   trapped e d = rw e (record { does = d; small = tt; kept = (refl, refl, refl) })
 
   -- 34

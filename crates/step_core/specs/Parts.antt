@@ -1,14 +1,15 @@
 -- How the parts that the code works on make up the definitions' machine, and its answers the definitions'. No behaviour is in it.
-use Rattle.std.specs.Prelude.{ℕ, ◌≤◌, ◌<◌, ◌+◌, ◌^◌, ◌≡◌, List, Bool, true, false}
+use Rattle.std.specs.Prelude.{ℕ, ◌≤◌, ◌<◌, ◌+◌, ◌^◌, ◌≡◌, List, Bool, true, false, Result, Ok, Err}
 use Rattle.machine.specs.declared.Machine.{Machine}
 use Rattle.machine.specs.Limits.{stack_limit, call_limit}
 use Rattle.machine.specs.Lookup.{Found, ill_chain, no_label, leads_to}
+use Rattle.machine.specs.Traps.{trap_number}
 use Rattle.machine.specs.Step.{Stepped, succeeds, outputs, trap, ill}
 use Rattle.step_core.specs.declared.Registers.{Registers}
 use Rattle.step_core.specs.declared.Executed.{Executed}
 use Rattle.step_core.specs.declared.Executed.TheVariants.{Next, Compared, Dump, Halt, Trap, Ill}
-use Rattle.step_core.specs.declared.LookedUp.{LookedUp}
-use Rattle.step_core.specs.declared.LookedUp.TheVariants.{NotAsked, NoLabel, IllChain, Target}
+use Rattle.step_core.specs.declared.LookupError.{LookupError}
+use Rattle.step_core.specs.declared.LookupError.TheVariants.{NoLabel, IllChain}
 
 -- the call height; a field's name with a line in it is written in marks
 abbrev pub height_of_calls : Registers → ℕ
@@ -29,7 +30,7 @@ means f (Next n) s ca me = succeeds (of_parts n f s ca me false)
 means f (Compared n g) s ca me = succeeds (of_parts n g s ca me false)
 means f (Dump n x) s ca me = outputs x (of_parts n f s ca me false)
 means f (Halt n) s ca me = succeeds (of_parts n f s ca me true)
-means f (Trap n t) s ca me = trap t (of_parts n f s ca me false)
+means f (Trap n t) s ca me = trap (trap_number t) (of_parts n f s ca me false)
 means f Ill s ca me = ill
 
 -- heights within their limits, which every step keeps
@@ -98,16 +99,12 @@ OnCalls i c ca r ca' = (s me : List ℕ) → Acts i c s ca me r s ca' me
 abbrev pub OnCalling : (Machine → Stepped) → Registers → List ℕ → Executed → List ℕ → Type 0
 OnCalling i c ca r ca' = (s me : List ℕ) → Does i c s ca me r s ca' me
 
--- what a lookup's answer says was found; without a lookup no jump goes anywhere, as at an ill chain
-abbrev pub found_of : LookedUp → Found
-found_of NotAsked = ill_chain
-found_of NoLabel = no_label
-found_of IllChain = ill_chain
-found_of (Target t) = leads_to t
+-- what a lookup answers: the index that the label leads to, or why there is none
+abbrev pub LookedUp : Type 0
+LookedUp = Result ℕ LookupError
 
--- a lookup was made
-abbrev pub is_asked : LookedUp → Bool
-is_asked NotAsked = false
-is_asked NoLabel = true
-is_asked IllChain = true
-is_asked (Target t) = true
+-- what was found by it
+abbrev pub found_of : LookedUp → Found
+found_of (Ok t) = leads_to t
+found_of (Err NoLabel) = no_label
+found_of (Err IllChain) = ill_chain

@@ -1,15 +1,14 @@
 -- The test for an I64 cell by its upper bits, and the definition of the integer instructions by their tests in the code's order. Assumes nothing.
 use Prim.Native.Nat.{ℕ, ◌/◌, ◌%◌, ◌^◌, ◌<◌}
 use mathlib.Core.Path.{◌≡◌, refl, sym, ◌∙◌, ap}
-use mathlib.Core.Bool.{Bool, true, false, not, ◌&&◌}
+use mathlib.Core.Bool.{Bool, true, false, cond, not, ◌&&◌}
 use mathlib.Core.List.{List}
 use native.Mathlib.Omega.{arith}
 use lib.Dec.{eqb, leb}
 use lib.IntN.{nat_abs}
 use lib.ListN.{get_or}
 use borrow.Author.Tests.{lt-ltb, ne_eqb, ltb-true, eqb-true, eqb-false, not-true}
-use Rattle.inst.specs.Forms.{values}
-use Rattle.inst.proofs.Table.{entry}
+use Rattle.inst.proofs.Table.{values, entry}
 use Rattle.inst.proofs.Laws.{never, and_left, and_right}
 use Rattle.binary64.specs.Binary64.{is_nan}
 use Rattle.nan.specs.declared.CellType.{CellType}
@@ -18,8 +17,12 @@ use Rattle.nan.specs.Cells as cells
 use Rattle.nan.proofs.Laws.{abs_value}
 use Rattle.machine.specs.declared.Machine.{Machine}
 use Rattle.machine.specs.Step.{succeeds, trap, ◌must◌else◌then◌, is, type_known, number_of, Integer, IDIV, divides, of_cells, integer_step}
+use Rattle.machine.specs.declared.Trap.TheVariants.{NotBothI64, UnknownType}
+use Rattle.machine.specs.Traps.{trap_number}
 use Rattle.machine.specs.Change.{onward, top, popped, replaced}
-use Rattle.step_integer.specs.FirstBytes.{type_trap}
+use Rattle.step_integer.specs.declared.Integer.{Integer as Kind}
+use Rattle.step_integer.specs.declared.Integer.TheVariants as kinds
+use Rattle.step_integer.specs.Kinds.{integer_of, type_trap}
 use Rattle.machine.proofs.Tests.{passes, fails, not_both_i64}
 
 -- ---- I64 by the bits 48 to 62
@@ -85,9 +88,13 @@ module _ (k : Integer) (m : Machine) where
   integer_short h = fails _ _ _ _ h
 
   module _ (h : leb 2 m.height ≡ true) where
-    pub integer_types : (is I64 (top (popped m)) && is I64 (top m)) ≡ false → integer_step k m ≡ trap (type_trap (top (popped m)) (top m)) (popped m)
+    which : (b : Bool) → cond b 30 31 ≡ trap_number (cond b NotBothI64 UnknownType)
+    which true = refl
+    which false = refl
+
+    pub integer_types : (is I64 (top (popped m)) && is I64 (top m)) ≡ false → integer_step k m ≡ trap (trap_number (type_trap (top (popped m)) (top m))) (popped m)
     unfolding type_trap
-    integer_types e = not_both_i64 k m h e
+    integer_types e = not_both_i64 k m h e ∙ ap (λ (n : ℕ). trap n (popped m)) (which (type_known (top (popped m)) && type_known (top m)))
 
     module _ (e : (is I64 (top (popped m)) && is I64 (top m)) ≡ true) where
       typed : integer_step k m ≡ (popped m must divides k (top m) else 24 then succeeds (onward (replaced (of_cells k (top (popped m)) (top m)) (popped m))))
@@ -99,6 +106,23 @@ module _ (k : Integer) (m : Machine) where
 
       pub integer_does : divides k (top m) ≡ true → integer_step k m ≡ succeeds (onward (replaced (of_cells k (top (popped m)) (top m)) (popped m)))
       integer_does d = typed ∙ passes _ _ _ _ d
+
+-- no other instruction than IDIV has a pair of cells without a result
+pub all_but : (k : Kind) (b : ℕ) → (k ≡ kinds.IDIV → ⊥) → divides (integer_of k) b ≡ true
+unfolding divides
+all_but kinds.IADD b h = refl
+all_but kinds.ISUB b h = refl
+all_but kinds.IMUL b h = refl
+all_but kinds.IDIV b h = absurd (h refl)
+
+-- every type but Unknown is known
+pub known_but : (t : CellType) → (t ≡ Unknown → ⊥) → not (eqb (number_of t) (number_of Unknown)) ≡ true
+unfolding number_of
+known_but F64 h = refl
+known_but I64 h = refl
+known_but U64 h = refl
+known_but Ptr h = refl
+known_but Unknown h = absurd (h refl)
 
 -- IDIV's divisor
 pub divisor : (b : ℕ) → divides IDIV b ≡ true → 0 < b % 2 ^ 48

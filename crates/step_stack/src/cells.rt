@@ -1,10 +1,11 @@
 // PUSH, POP, INC, DEC, SWAP, DUP, BOT. Only our own steps call them: each requires what a step has tested before it
 // executes an instruction.
+ghost use Rattle.std.specs.Prelude.{ℕ};
 ghost use Rattle.machine.specs.Step as definition;
-ghost use Rattle.integer.specs.Integers as integers;
 ghost use Rattle.step_core.specs.Parts.{Tested, OnRegisters, OnStack};
+ghost use Rattle.step_stack.specs.Functions.{Computes};
 
-use machine::{STACK_LIMIT, traps};
+use machine::{STACK_LIMIT, Trap};
 use step_core::{Executed, Registers, onward, trap};
 
 pub fn push(regs: Registers, stack: &mut [u64; STACK_LIMIT], cell: u64) -> Executed
@@ -16,7 +17,7 @@ pub fn push(regs: Registers, stack: &mut [u64; STACK_LIMIT], cell: u64) -> Execu
         stack[height] = cell;
         onward(regs, height + 1)
     } else {
-        trap(regs, height, traps::STACK_OVERFLOW)
+        trap(regs, height, Trap::StackOverflow)
     }
 }
 
@@ -28,35 +29,23 @@ pub fn pop(regs: Registers) -> Executed
     if 0 < height {
         onward(regs, height - 1)
     } else {
-        trap(regs, height, traps::STACK_UNDERFLOW)
+        trap(regs, height, Trap::StackUnderflow)
     }
 }
 
-pub fn inc(regs: Registers, stack: &mut [u64; STACK_LIMIT]) -> Executed
-    requires { Tested regs }
-    ensures { OnStack (definition.adjust integers.inc) regs stack.old result stack.new }
+// INC and DEC: the top becomes what `f` makes of it.
+pub fn adjust<F: Fn(u64) -> u64>(regs: Registers, stack: &mut [u64; STACK_LIMIT], f: F) -> Executed
+    requires tested { Tested regs }
+    requires callable { F.IsAlwaysCallable f }
+    ensures { (g : ℕ → ℕ) → Computes g (F.post f) → OnStack (definition.adjust g) regs stack.old result stack.new }
 {
     let height = regs.height;
     if 0 < height {
-        let cell = stack[height - 1];
-        stack[height - 1] = integer::inc(cell);
+        let top = height - 1;
+        stack[top] = f(stack[top]);
         onward(regs, height)
     } else {
-        trap(regs, height, traps::STACK_UNDERFLOW)
-    }
-}
-
-pub fn dec(regs: Registers, stack: &mut [u64; STACK_LIMIT]) -> Executed
-    requires { Tested regs }
-    ensures { OnStack (definition.adjust integers.dec) regs stack.old result stack.new }
-{
-    let height = regs.height;
-    if 0 < height {
-        let cell = stack[height - 1];
-        stack[height - 1] = integer::dec(cell);
-        onward(regs, height)
-    } else {
-        trap(regs, height, traps::STACK_UNDERFLOW)
+        trap(regs, height, Trap::StackUnderflow)
     }
 }
 
@@ -67,14 +56,10 @@ pub fn swap(regs: Registers, stack: &mut [u64; STACK_LIMIT], depth: u64) -> Exec
 {
     let height = regs.height;
     if depth < height as u64 {
-        let at = height - 1 - depth as usize;
-        let top = stack[height - 1];
-        let cell = stack[at];
-        stack[at] = top;
-        stack[height - 1] = cell;
+        stack.swap(height - 1 - depth as usize, height - 1);
         onward(regs, height)
     } else {
-        trap(regs, height, traps::STACK_UNDERFLOW)
+        trap(regs, height, Trap::StackUnderflow)
     }
 }
 
@@ -87,7 +72,7 @@ pub fn dup(regs: Registers, stack: &mut [u64; STACK_LIMIT], depth: u64) -> Execu
         let copied = stack[height - 1 - depth as usize];
         push(regs, stack, copied)
     } else {
-        trap(regs, height, traps::STACK_UNDERFLOW)
+        trap(regs, height, Trap::StackUnderflow)
     }
 }
 
@@ -100,6 +85,6 @@ pub fn bot(regs: Registers, stack: &mut [u64; STACK_LIMIT]) -> Executed
         let bottom = stack[0];
         push(regs, stack, bottom)
     } else {
-        trap(regs, height, traps::STACK_UNDERFLOW)
+        trap(regs, height, Trap::StackUnderflow)
     }
 }

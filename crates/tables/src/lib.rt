@@ -2,12 +2,14 @@
 // Reading and writing one number or record. These functions have a `requires`: only our own crates call them.
 #![tactic(auto)]
 
-ghost use Rattle.std.specs.Prelude.{◌≡◌, [], ◌∷◌, ◌+◌, ◌*◌, ◌≤◌, length, get_or};
+ghost use Rattle.std.specs.Prelude.{◌≡◌, refl, ℕ, List, [], ◌∷◌, ◌+◌, ◌*◌, ◌≤◌, length, get_or, slice_index};
 ghost use Rattle.std.proofs.lemmas.List.Edits.{sets};
 ghost use Rattle.inst.specs.declared.Inst.{Inst};
 ghost use Rattle.machine.specs.declared.Label.{Label};
-ghost use Rattle.tables.specs.Tables.{number_at, bytes_of, insts_of, labels_of};
+ghost use Rattle.tables.specs.Tables.{number_at, numbers_in, records_of, bytes_of, inst, label, inst_numbers, label_numbers};
 ghost use Rattle.word.specs.Words.{eight_of};
+
+pub mod labels;
 
 use inst::Inst;
 use machine::Label;
@@ -34,39 +36,90 @@ pub fn put_number(bytes: &mut [u8], n: usize, v: u64)
     put_word(bytes, n * NUMBER, v);
 }
 
-// Instruction record i, whatever stands for a record past the table.
-pub fn inst_at(insts: &[u8], i: usize) -> Inst
-    requires { i * 32 + 32 ≤ length insts.now }
-    ensures { (d : Inst) → result ≡ get_or (insts_of insts.now) i d }
-{
-    let n = i * 4;
-    Inst {
-        typ: number_at(insts, n),
-        val: number_at(insts, n + 1),
-        start: number_at(insts, n + 2),
-        len: number_at(insts, n + 3),
+// A record: four numbers, and back.
+pub trait Record {
+    // The record of four numbers, and the numbers of a record.
+    ghost of_numbers: { ℕ → ℕ → ℕ → ℕ → Self };
+
+    ghost numbers: { Self → List ℕ };
+
+    fn from_numbers(a: u64, b: u64, c: u64, d: u64) -> Self
+        ensures { result ≡ of_numbers a b c d };
+
+    fn to_numbers(self) -> [u64; 4]
+        ensures { result ≡ numbers self };
+
+    ghost back: { (a b c d : ℕ) → numbers (of_numbers a b c d) ≡ a ∷ b ∷ c ∷ d ∷ [] };
+
+    ghost forth: { (r : Self) → of_numbers (slice_index (numbers r) 0) (slice_index (numbers r) 1) (slice_index (numbers r) 2) (slice_index (numbers r) 3) ≡ r };
+}
+
+impl Record for Inst {
+    ghost of_numbers = { inst };
+
+    ghost numbers = { inst_numbers };
+
+    ghost back = { λ a b c d. refl };
+
+    ghost forth = { λ r. refl };
+
+    fn from_numbers(a: u64, b: u64, c: u64, d: u64) -> Inst {
+        Inst {
+            typ: a,
+            val: b,
+            start: c,
+            len: d,
+        }
+    }
+
+    fn to_numbers(self) -> [u64; 4] {
+        [self.typ, self.val, self.start, self.len]
     }
 }
 
-// Label record i.
-pub fn label_at(labels: &[u8], i: usize) -> Label
-    requires { i * 32 + 32 ≤ length labels.now }
-    ensures { (d : Label) → result ≡ get_or (labels_of labels.now) i d }
-{
-    let n = i * 4;
-    Label {
-        start: number_at(labels, n),
-        len: number_at(labels, n + 1),
-        target: number_at(labels, n + 2),
-        next: number_at(labels, n + 3),
+impl Record for Label {
+    ghost of_numbers = { label };
+
+    ghost numbers = { label_numbers };
+
+    ghost back = { λ a b c d. refl };
+
+    ghost forth = { λ r. refl };
+
+    fn from_numbers(a: u64, b: u64, c: u64, d: u64) -> Label {
+        Label {
+            start: a,
+            len: b,
+            target: c,
+            next: d,
+        }
+    }
+
+    fn to_numbers(self) -> [u64; 4] {
+        [self.start, self.len, self.target, self.next]
     }
 }
 
-// Four numbers as record i of either table.
-pub fn put(table: &mut [u8], i: usize, a: u64, b: u64, c: u64, d: u64)
+// Record i of a table, whatever stands for a record past it.
+pub fn record_at<R: Record>(table: &[u8], i: usize) -> R
+    requires { i * 32 + 32 ≤ length table.now }
+    ensures { (d : R) → result ≡ get_or (records_of R.of_numbers (numbers_in table.now)) i d }
+{
+    let n = i * 4;
+    R::from_numbers(
+        number_at(table, n),
+        number_at(table, n + 1),
+        number_at(table, n + 2),
+        number_at(table, n + 3),
+    )
+}
+
+// A record as record i of a table.
+pub fn put<R: Record>(table: &mut [u8], i: usize, r: R)
     requires { i * 32 + 32 ≤ length table.old }
-    ensures { table.new ≡ sets table.old (i * 32) (bytes_of (a ∷ b ∷ c ∷ d ∷ [])) }
+    ensures { table.new ≡ sets table.old (i * 32) (bytes_of (R.numbers r)) }
 {
+    let [a, b, c, d] = r.to_numbers();
     let n = i * 4;
     put_number(table, n, a);
     put_number(table, n + 1, b);

@@ -9,23 +9,25 @@ use Rattle.machine.specs.Load.{Load, rejects, accepts, insts_after, labels_after
 use Rattle.machine.specs.Statements.{loaded_program}
 use Rattle.tables.specs.Tables.{insts_of, labels_of, program}
 use Rattle.tables.proofs.Laws.{insts_sets, labels_sets}
-use Rattle.loader.specs.declared.Loading.{Loading}
-use Rattle.loader.specs.declared.Loading.TheVariants.{Refused, Accepted}
+use Rattle.std.specs.Prelude.{Result, Ok, Err}
+use Rattle.loader.specs.declared.Accepted.{Accepted}
+use Rattle.loader.specs.declared.refusal.Refusal.{Refusal}
+use Rattle.loader.specs.Refusals.{number_of}
 use Rattle.loader.specs.Loading.{refuses, starts, reply_of, fresh_at, means, insts_left, labels_left, load_of, FromBinary}
 use Rattle.report.specs.Text.{refused_line, Put}
 use Rattle.transcript.specs.Transcript.{in_all, report, steps_in_all, dump_room, printed_of, printed_with}
 
 module _ (image insts labels : List ℕ) where
-  refused_prints : (insts' labels' : List ℕ) (n : ℕ) → FromBinary image insts labels (Refused n) insts' labels' → printed_with image insts labels ≡ refused_line n
+  refused_prints : (insts' labels' : List ℕ) (x : Refusal) → FromBinary image insts labels (Err x) insts' labels' → printed_with image insts labels ≡ refused_line (number_of x)
   unfolding means reply_of printed_of
-  refused_prints insts' labels' n f = by_load (load_of image insts labels) f.answers
+  refused_prints insts' labels' x f = by_load (load_of image insts labels) f.answers
     where
-      by_load : (l : Load) → refuses n ≡ reply_of l → printed_of image (insts_of insts) (labels_of labels) l ≡ refused_line n
-      by_load (rejects k) e = let h : n ≡ k = cc in ap refused_line (sym h)
+      by_load : (l : Load) → refuses (number_of x) ≡ reply_of l → printed_of image (insts_of insts) (labels_of labels) l ≡ refused_line (number_of x)
+      by_load (rejects k) e = let h : number_of x ≡ k = cc in ap refused_line (sym h)
       by_load (accepts l) e = let z : ◌≡◌ {A = ℕ} 0 1 = cc in absurd (omega arith)
 
   -- the tables as they were left are those of the definition
-  accepted_prints : (insts' labels' : List ℕ) (ip count : ℕ) → FromBinary image insts labels (Accepted ip count) insts' labels'
+  accepted_prints : (insts' labels' : List ℕ) (ip count : ℕ) → FromBinary image insts labels (Ok (record { ip = ip; count = count })) insts' labels'
       → printed_with image insts labels ≡ report (in_all steps_in_all (program image insts' labels' count) dump_room steps_in_all (fresh_at ip))
   unfolding means reply_of printed_of insts_left labels_left loaded_program insts_after labels_after
   accepted_prints insts' labels' ip count f = by_load (load_of image insts labels) f.answers f.insts_are f.labels_are
@@ -41,11 +43,11 @@ module _ (image insts labels : List ℕ) where
           rw (m, c, x, y)
 
   -- by the call's answer
-  pub refused_put : {insts' labels' t t' : List ℕ} {r : Loading} {n next : ℕ} → FromBinary image insts labels r insts' labels' → r ≡ Refused n
+  pub refused_put : {insts' labels' t t' : List ℕ} {r : Result Accepted Refusal} {x : Refusal} {n next : ℕ} → FromBinary image insts labels r insts' labels' → r ≡ Err x → n ≡ number_of x
       → Put t 0 (refused_line n) t' next → Put t 0 (printed_with image insts labels) t' next
-  refused_put f e p = rw (refused_prints _ _ _ (rw e at f)) p
+  refused_put f e i p = rw (refused_prints _ _ _ (rw e at f)) (rw i at p)
 
-  pub accepted_put : {insts' labels' t t' : List ℕ} {r : Loading} {ip count next : ℕ} {m : Machine} → FromBinary image insts labels r insts' labels'
-      → r ≡ Accepted ip count → m ≡ fresh_at ip → Put t 0 (report (in_all steps_in_all (program image insts' labels' count) dump_room steps_in_all m)) t' next
+  pub accepted_put : {insts' labels' t t' : List ℕ} {r : Result Accepted Refusal} {a : Accepted} {next : ℕ} {m : Machine} → FromBinary image insts labels r insts' labels'
+      → r ≡ Ok a → m ≡ fresh_at a.ip → Put t 0 (report (in_all steps_in_all (program image insts' labels' a.count) dump_room steps_in_all m)) t' next
       → Put t 0 (printed_with image insts labels) t' next
   accepted_put f e i p = rw (accepted_prints _ _ _ _ (rw e at f)) (rw i at p)

@@ -1,7 +1,7 @@
 -- The runs of an image, printed one behind the other. Assumes nothing.
-use Prim.Native.Nat.{ℕ, suc, ◌+◌, ◌-◌, ◌/◌, ◌≤◌, ◌<◌}
+use Prim.Native.Nat.{ℕ, ◌+◌, ◌-◌, ◌/◌, ◌≤◌, ◌<◌}
 use mathlib.Core.Path.{◌≡◌, refl, ap, ◌∙◌, sym}
-use mathlib.Core.Bool.{Bool, true, false, cond}
+use mathlib.Core.Bool.{Bool, true, false}
 use mathlib.Core.List.{List, [], ◌++◌, append_assoc}
 use native.Mathlib.Nat.{zero-add, add_assoc, sub-add-eq}
 use native.Mathlib.Omega.{arith}
@@ -9,8 +9,7 @@ use lib.Dec.{lit<}
 use lib.ListN.{length, take, length-append}
 use lib.Seq.{sets, length-sets}
 use Rattle.machine.specs.declared.Machine.{Machine}
-use Rattle.machine.specs.declared.Ending.{Ending}
-use Rattle.machine.specs.declared.Ending.TheVariants.{Number}
+use Rattle.machine.specs.Ending.{Ending, Number}
 use Rattle.machine.specs.Change.{height_of_calls}
 use Rattle.machine.specs.Lookup.{Program}
 use Rattle.machine.specs.Run.{Course, course, Result, reported, run}
@@ -21,7 +20,7 @@ use Rattle.run.specs.Runs.{run_bytes}
 use Rattle.report.specs.Text.{cell_lines, end_line, Put}
 use Rattle.report.proofs.Laws.{put_both, lines_append, length_lines, end_line_short}
 use Rattle.transcript.specs.Transcript.{is_full, joined, continued, in_all, report, steps_in_all, dump_room, text_size}
-use Rattle.transcript.proofs.Joined.{by_bool, Front, fronts, one_run, buffer_unseen}
+use Rattle.transcript.proofs.Joined.{Front, fronts, one_run, buffer_unseen}
 
 -- a buffer of 64 cells, and that a run keeps its length
 pub sixty_four : (b : List ℕ) → length b ≡ 512 → length (numbers_in b) ≡ dump_room
@@ -51,9 +50,15 @@ unfolding cell_lines continued is_full
 begins p m t =
     record { cells = []; lines = record { text_is = refl; next_is = refl }; fewer = omega arith; within = omega arith; leads = rw zero-add }
 
--- steps that are left, where it goes on
-abbrev pub weight : Ending → ℕ → ℕ
-weight e steps = cond (is_full e) (suc (steps_in_all - steps)) 0
+-- a run that ended with a full buffer, and what is left from its machine on, as before the first
+pub full : is_full (Number 33) ≡ true
+unfolding is_full
+full = refl
+
+pub resumed : {p : Program} {m₀ : Machine} {t₀ t : List ℕ} {m : Machine} {e : Ending} {steps at : ℕ} → Printing p m₀ t₀ t m e steps at → is_full e ≡ true
+    → Printing p m₀ t₀ t m (Number 33) steps at
+unfolding continued is_full
+resumed s f = record { cells = s.cells; lines = s.lines; fewer = s.fewer; within = s.within; leads = rw f at s.leads }
 
 -- What a run more comes to, of what was lent and is answered: x is the answer
 pub record Turned (p : Program) (m₀ : Machine) (t₀ t : List ℕ) (e : Ending) (steps at : ℕ) (x : Result) : Type 0 where
@@ -62,7 +67,7 @@ pub record Turned (p : Program) (m₀ : Machine) (t₀ t : List ℕ) (e : Ending
   pub fewer : x.steps ≤ steps_in_all - steps
   pub room : length t ≡ text_size → at + length (cell_lines (take x.dumped x.buffer)) ≤ length t
   pub goes : {t' : List ℕ} {at' : ℕ} → Put t at (cell_lines (take x.dumped x.buffer)) t' at' → Printing p m₀ t₀ t' x.machine x.ending (steps + x.steps) at'
-  pub falls : weight x.ending (steps + x.steps) < weight e steps
+  pub falls : is_full x.ending ≡ true → 0 < x.steps
 
 module _ {p : Program} {m₀ : Machine} {t₀ t : List ℕ} {m : Machine} {e : Ending} {steps at : ℕ} (s : Printing p m₀ t₀ t m e steps at) where
   module _ (f : is_full e ≡ true) (buffer : List ℕ) (sixty_four : length buffer ≡ dump_room) where
@@ -101,9 +106,7 @@ module _ {p : Program} {m₀ : Machine} {t₀ t : List ℕ} {m : Machine} {e : E
           room = λ long.
               rw cells_are (omega (arith, length_lines r.cells, length_lines s.cells, s.lines.next_is, s.fewer, s.within, counts.within, counts.fewer));
           goes = goes_on;
-          falls = rw f
-              (by_bool (λ b. is_full r.ending ≡ b → cond b (suc (steps_in_all - (steps + r.steps))) 0 < suc (steps_in_all - steps)) (is_full r.ending)
-              (λ b c. omega (arith, (counts.full c).0, (counts.full c).1, counts.fewer, s.within)) (λ b c. omega arith) refl);
+          falls = λ c. omega (arith, (counts.full c).0, (counts.full c).1, counts.fewer);
         }
 
     pub turned : (x : Result) → x ≡ run p (steps_in_all - steps) buffer m → Turned p m₀ t₀ t e steps at x

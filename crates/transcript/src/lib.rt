@@ -2,16 +2,16 @@
 #![tactic(auto)]
 
 ghost use Rattle.std.specs.Prelude.{◌≡◌};
+ghost use Rattle.machine.specs.Ending.{ending_of};
 ghost use Rattle.tables.specs.Tables.{program};
-ghost use Rattle.report.specs.Text.{Put};
+ghost use Rattle.report.specs.Text.{Put, refused_line};
 ghost use Rattle.transcript.specs.Transcript.{is_full, in_all, report, steps_in_all, dump_room, blank_text, printed};
 ghost use Rattle.transcript.specs.Theorems.{BufferUnseen};
 
-use loader::{INST_BYTES, LABEL_BYTES, Loading, fresh, from_binary};
+use loader::{INST_BYTES, LABEL_BYTES, fresh, from_binary};
 use machine::{Ending, Machine};
-use report::{put_cell_lines, put_end_line, put_refused_line};
+use report::Output;
 use run::execute_program;
-use run::progress::BUFFER_FULL;
 
 // The steps in all, and the bytes of a text that has room for as many lines of a cell and the last line.
 pub const STEPS: u64 = 10000;
@@ -27,17 +27,12 @@ pub fn transcript_theorems()
 {}
 
 fn is_full(ending: Ending) -> bool
-    ensures { result ≡ is_full ending }
+    ensures { result ≡ is_full (ending_of ending) }
 {
-    match ending {
-        Ending::Halted => false,
-        Ending::Limit => false,
-        Ending::Number(n) => n == BUFFER_FULL,
-    }
+    matches!(ending, Ending::BufferFull)
 }
 
 // Prints the runs from m on, one behind the other, until one ends otherwise than with a full buffer. Each is lent the buffer empty.
-// `ending` is that of the run before, and a full buffer before the first.
 fn print_runs(
     image: &[u8],
     insts: &[u8],
@@ -50,10 +45,9 @@ fn print_runs(
 {
     let mut dumps = [0u8; ROOM];
     let mut machine = m;
-    let mut ending = Ending::Number(BUFFER_FULL);
     let mut steps: u64 = 0;
-    let mut at: usize = 0;
-    while is_full(ending) {
+    let mut out = Output::new(text);
+    loop {
         let ran = execute_program(
             image,
             insts,
@@ -63,23 +57,32 @@ fn print_runs(
             STEPS - steps,
             &mut dumps,
         );
-        at = put_cell_lines(text, at, &dumps, ran.dumped);
-        steps = steps + ran.steps;
+        out.cell_lines(&dumps, ran.dumped);
+        steps += ran.steps;
         machine = ran.machine;
-        ending = ran.ending;
+        if !is_full(ran.ending) {
+            out.end_line(
+                ran.ending,
+                steps,
+                machine.ip as u64,
+                machine.height as u64,
+                machine.call_height as u64,
+            );
+            return out.len();
+        }
     }
-    put_end_line(
-        text,
-        at,
-        ending,
-        steps,
-        machine.ip as u64,
-        machine.height as u64,
-        machine.call_height as u64,
-    )
+}
+
+fn print_refused(text: &mut [u8; TEXT], number: u8) -> usize
+    ensures { Put text.old 0 (refused_line number) text.new result }
+{
+    let mut out = Output::new(text);
+    out.refused_line(number);
+    out.len()
 }
 
 // A text to lend.
+#[tactic(auto, unfolding(crate::specs::Transcript::blank_text))]
 pub fn blank_text() -> [u8; TEXT]
     ensures { result ≡ blank_text }
 {
@@ -92,15 +95,14 @@ pub fn run_image(image: &[u8], text: &mut [u8; TEXT]) -> usize
 {
     let mut insts = [0u8; INST_BYTES];
     let mut labels = [0u8; LABEL_BYTES];
-    let did = from_binary(image, &mut insts, &mut labels);
-    match did {
-        Loading::Refused(number) => put_refused_line(text, 0, number),
-        Loading::Accepted { ip, count } => print_runs(
+    match from_binary(image, &mut insts, &mut labels) {
+        Err(refusal) => print_refused(text, refusal.number()),
+        Ok(accepted) => print_runs(
             image,
             &insts,
             &labels,
-            count,
-            fresh(ip),
+            accepted.count,
+            fresh(accepted.ip),
             text,
         ),
     }

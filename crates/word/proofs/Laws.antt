@@ -1,12 +1,13 @@
 -- Eight bytes of a slice, and of a number. Assumes nothing.
-use Prim.Native.Nat.{ℕ, suc, ◌<◌, ◌≤◌, ◌+◌, ◌*◌, ◌/◌, ◌%◌}
+use Prim.Native.Nat.{ℕ, suc, ◌<◌, ◌≤◌, ◌+◌, ◌-◌, ◌*◌, ◌/◌, ◌%◌, ◌^◌}
 use mathlib.Core.Path.{◌≡◌, ap, sym, ◌∙◌}
-use mathlib.Core.List.{List, [], ◌∷◌}
-use native.Mathlib.Nat.{add-zero}
-use native.Mathlib.Numerals.{towards_suc}
+use mathlib.Core.List.{List, [], ◌∷◌, ◌++◌, append_assoc}
+use native.Mathlib.Nat.{add-zero, mod-eq_of_lt}
 use native.Mathlib.Omega.{arith}
-use lib.ListN.{length, get_or, set}
-use lib.Seq.{slice, slice-cons, slice_empty, sets}
+use lib.ListN.{length, take, drop, get_or, length-drop}
+use lib.Seq.{slice, slice-cons, slice_empty, sets, sets-eq, length-take-le, take_all, drop-drop}
+use Rattle.std.specs.Int.{w64, from_le_bytes, to_le_bytes}
+use Rattle.std.proofs.lemmas.List.{drop-take}
 use Rattle.word.specs.Words.{little_endian, number_of, word, eight_of}
 
 slice_eight : (s : List ℕ) (at : ℕ) → at + 8 ≤ length s
@@ -22,6 +23,13 @@ slice_eight s at h =
 pub eight_from : (s : List ℕ) (at : ℕ) → at + 8 ≤ length s
     → number_of (get_or s at 0) (get_or s (at + 1) 0) (get_or s (at + 2) 0) (get_or s (at + 3) 0) (get_or s (at + 4) 0) (get_or s (at + 5) 0) (get_or s (at + 6) 0) (get_or s (at + 7) 0) ≡ word s at
 eight_from s at h = ap little_endian (sym (slice_eight s at h))
+
+-- eight bytes as the library reads them
+little_is : (bs : List ℕ) → length bs ≡ 8 → from_le_bytes w64 bs ≡ little_endian bs
+unfolding little_endian
+little_is bs l =
+    let e : from_le_bytes w64 bs ≡ number_of (get_or bs 0 0) (get_or bs 1 0) (get_or bs 2 0) (get_or bs 3 0) (get_or bs 4 0) (get_or bs 5 0) (get_or bs 6 0) (get_or bs 7 0) = omega arith in
+    e ∙ eight_from bs 0 (omega arith) ∙ ap little_endian (take_all 8 bs (omega arith))
 
 -- a number's bytes are its own: each byte with what stands above it
 byte_0 : (v : ℕ) → v % 256 + v / 0x100 * 256 ≡ v
@@ -53,9 +61,16 @@ add_up v q1 q2 q3 q4 q5 q6 q7 b0 b1 b2 b3 b4 b5 b6 e0 e1 e2 e3 e4 e5 e6 = omega 
 pub number_back : (v : ℕ) → number_of (v % 256) (v / 0x100 % 256) (v / 0x10000 % 256) (v / 0x1000000 % 256) (v / 0x100000000 % 256) (v / 0x10000000000 % 256) (v / 0x1000000000000 % 256) (v / 0x100000000000000) ≡ v
 number_back v = add_up v _ _ _ _ _ _ _ _ _ _ _ _ _ _ (byte_0 v) (byte_1 v) (byte_2 v) (byte_3 v) (byte_4 v) (byte_5 v) (byte_6 v)
 
--- eight bytes stored one by one
-pub eight_stored : (bs : List ℕ) (i v a b c d e f g h : ℕ) → a ≡ v % 256 → b ≡ v / 0x100 % 256 → c ≡ v / 0x10000 % 256 → d ≡ v / 0x1000000 % 256
-    → e ≡ v / 0x100000000 % 256 → f ≡ v / 0x10000000000 % 256 → g ≡ v / 0x1000000000000 % 256 → h ≡ v / 0x100000000000000
-    → set (set (set (set (set (set (set (set bs i a) (i + 1) b) (i + 2) c) (i + 3) d) (i + 4) e) (i + 5) f) (i + 6) g) (i + 7) h ≡ sets bs i (eight_of v)
+-- the eight bytes from a place on, as a number
+pub eight_read : (bs : List ℕ) (at : ℕ) → at + 8 ≤ length bs → from_le_bytes w64 (take (at + 8 - at) (drop at bs)) ≡ word bs at
+eight_read bs at h =
+    let n : at + 8 - at ≡ 8 = omega arith in
+    rw n (little_is (take 8 (drop at bs)) (length-take-le 8 (drop at bs) (omega (arith, length-drop at bs))) ∙ ap little_endian (sym (drop-take at 8 bs)))
+
+-- and stored there
+pub eight_stored : (bs : List ℕ) (at v : ℕ) → at + 8 ≤ length bs → v < 2 ^ 64 → take at bs ++ (to_le_bytes w64 v ++ drop (at + 8 - at) (drop at bs)) ≡ sets bs at (eight_of v)
 unfolding eight_of
-eight_stored bs i v a b c d e f g h p q r s t u w z = rw (p, q, r, s, t, u, w, z) (simp towards_suc)
+eight_stored bs at v h l =
+    let n : at + 8 - at ≡ 8 = omega arith in
+    let top : v / 0x100000000000000 % 256 ≡ v / 0x100000000000000 = mod-eq_of_lt (omega arith) in
+    rw (n, top, drop-drop 8 at bs) (sym (sets-eq (eight_of v) bs at h ∙ append_assoc (take at bs) (eight_of v) (drop (at + 8) bs)))

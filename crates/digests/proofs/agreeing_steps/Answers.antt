@@ -1,5 +1,5 @@
 -- `digests::agreeing_steps` meets its contract. Assumes nothing.
-use Prim.Native.Nat.{◌<◌, ◌≤◌}
+use Prim.Native.Nat.{◌<◌}
 use native.Mathlib.Nat.{zero-add}
 use native.Mathlib.Omega.{arith}
 use borrow.Author.Rules.{rules}
@@ -16,24 +16,22 @@ use Rattle.digests.proofs.agreeing_steps.Goals as goal
 pub loop-i-init : goal.loop-i-init
 loop-i-init c = record { inside = search rules; rest = zero-add _ }
 
-pub returns-then-digest_after-digest_at : goal.returns-then-digest_after-digest_at
+pub returns-then-digest-digest_at : goal.returns-then-digest-digest_at
 unfolding digest_after numbers_in little_endian
-returns-then-digest_after-digest_at c =
+returns-then-digest-digest_at c =
     let l = c.loop-i in
-    let below : l.i < length (records_of word c.args.recorded.now) = let e = length_records word c.args.recorded.now in omega (arith, c.loop-i-test.true) in
-    agreeing_differs _ _ _ _ _ l.invariant (cells (answer c.execute_program-ran.result c.execute_program-ran.new.dumps)) _ _ below (in_cells _ _ _ _ _ c.execute_program-ran.ensures) (rw c.number_at.ensures at c.digest_after.ensures) c.digest_at.ensures c.if-digest_after-digest_at.true
-
-pub overflow_add-i : goal.overflow_add-i
-overflow_add-i c = omega (arith, c.well_formed.1.1.1.1.1.0.0)
+    let below : l.i < length (records_of word c.args.recorded.now) = let e = length_records word c.args.recorded.now in omega arith in
+    agreeing_differs _ _ _ _ _ l.invariant (cells (answer c.execute_program-ran.result c.execute_program-ran.new.dumps)) _ _ below (in_cells _ _ _ _ _ c.execute_program-ran.ensures) (rw (c.number_at.ensures, c.from.ensures) at c.digest-digest.ensures) c.digest_at.ensures c.if-digest-digest_at.true
 
 pub loop-i-preserved : goal.loop-i-preserved
 unfolding digest_after numbers_in little_endian
 loop-i-preserved c =
     let l = c.loop-i in
-    let below : l.i < length (records_of word c.args.recorded.now) = let e = length_records word c.args.recorded.now in omega (arith, c.loop-i-test.true) in
-    agreeing_next _ _ _ _ _ l.invariant (cells (answer c.execute_program-ran.result c.execute_program-ran.new.dumps)) _ _ below (in_cells _ _ _ _ _ c.execute_program-ran.ensures) (rw c.number_at.ensures at c.digest_after.ensures) c.digest_at.ensures c.if-digest_after-digest_at.false
+    let below : l.i < length (records_of word c.args.recorded.now) = let e = length_records word c.args.recorded.now in omega arith in
+    agreeing_next _ _ _ _ _ l.invariant (cells (answer c.execute_program-ran.result c.execute_program-ran.new.dumps)) _ _ below (in_cells _ _ _ _ _ c.execute_program-ran.ensures) (rw (c.number_at.ensures, c.from.ensures) at c.digest-digest.ensures) c.digest_at.ensures c.if-digest-digest_at.false
 
 pub returns : goal.returns
 returns c =
-    let past : length (records_of word c.args.recorded.now) ≤ c.loop-i.i = let e = length_records word c.args.recorded.now in omega (arith, c.loop-i-test.false) in
-    agreeing_end _ _ _ _ _ c.loop-i.invariant past
+    let e = length_records word c.args.recorded.now in
+    let n = agreeing_end _ _ _ _ _ c.loop-i.invariant (omega arith) in
+    omega arith

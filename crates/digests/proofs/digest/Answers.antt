@@ -1,23 +1,18 @@
 -- `digests::digest` meets its contract. Assumes nothing.
-use lib.Dec.{lit<}
-use Rattle.digests.specs.Digests.{digest_of}
-use Rattle.digests.proofs.Laws.{all_small, parts}
+use native.Mathlib.Omega.{arith}
+use lib.ListN.{take}
+use Rattle.std.proofs.lemmas.Grind.{common_steps}
+use Rattle.machine.specs.declared.Machine.{Machine}
+use Rattle.digests.specs.Digests.{numbers, digest_of}
+use Rattle.digests.proofs.Laws.{of_bool, parts}
 use Rattle.digests.proofs.digest.Goals as goal
-
-pub mix_stack-b-requires : goal.mix_stack-b-requires
-mix_stack-b-requires c = rw c.mix_cells-a.ensures (all_small _ _ (lit< tt))
-
-pub mix_stack-c-requires : goal.mix_stack-c-requires
-mix_stack-c-requires c = rw (c.mix_stack-b.ensures, c.mix_cells-a.ensures) (all_small _ _ (all_small _ _ (lit< tt)))
-
-pub mix_bytes-requires : goal.mix_bytes-requires
-mix_bytes-requires c = rw (c.mix_stack-c.ensures, c.mix_stack-b.ensures, c.mix_cells-a.ensures) (all_small _ _ (all_small _ _ (all_small _ _ (lit< tt))))
 
 pub returns : goal.returns
 unfolding digest_of
 returns c =
-    parts _ _ _ _ _ _ _ _
-    (rw c.truth.ensures at c.mix_cells-a.ensures)
-    c.mix_stack-b.ensures
-    c.mix_stack-c.ensures
-    c.mix_bytes.ensures
+    let m : Machine = c.args.m.now in
+    parts (numbers c.args.ending c.args.cell m) (take m.height m.stack) (take m.call_height m.calls) m.memory _ _ _ _
+    (rw (c.from.ensures, c.from-2.ensures, of_bool m.halted) at c.mix_cells-a.ensures)
+    c.mix_cells-b.ensures
+    c.mix_cells-c.ensures
+    (grind (arith, common_steps))

@@ -1,11 +1,7 @@
 -- `encoder::check` meets its contract. Assumes nothing.
-use Prim.Native.Nat.{◌-◌}
 use Rattle.tables.specs.Tables.{insts_of}
 use Rattle.encoder.proofs.Records.{Checked}
 use Rattle.encoder.proofs.check.Given as goal
 
 abbrev pub invariant-loop-i : goal.invariant-loop-i
-invariant-loop-i l = Checked l.image (insts_of l.insts) l.count l.room l.r l.i
-
-abbrev pub decreases-loop-i : goal.decreases-loop-i
-decreases-loop-i l = l.count - l.i
+invariant-loop-i l = Checked l.image (insts_of l.insts) l.count l.room l.left l.i

@@ -2,9 +2,6 @@
 use Rattle.machine.specs.Encode.{encoded_size}
 use Rattle.encoder.proofs.encoded_size.Goals as goal
 
-pub check-requires : goal.check-requires
-check-requires c = c.form_table-forms.ensures
-
 pub returns : goal.returns
 unfolding encoded_size
 returns c = c.check.ensures

@@ -10,32 +10,32 @@ pub loop-i-init : goal.loop-i-init
 loop-i-init c =
     record { within = c.requires.count_in_bounds; inside = omega arith; well = c.requires.insts_value; fits = omega arith; same = refl; gives = refl }
 
-pub inst_at-inst-requires : goal.inst_at-inst-requires
-inst_at-inst-requires c =
+pub record_at-inst-requires : goal.record_at-inst-requires
+record_at-inst-requires c =
     let l = length_records inst c.args.insts.now in
     let w = c.loop-i.invariant.within in
     omega arith
 
-pub put_inst-at-requires : goal.put_inst-at-requires
-put_inst-at-requires c =
-    let e = c.inst_at-inst.ensures in
+pub as_bytes-at-requires : goal.as_bytes-at-requires
+as_bytes-at-requires c =
+    let e = c.record_at-inst.ensures in
     let t = c.loop-i-test.true in
-    let s = c.loop-i.invariant in record { forms_value = c.requires.forms_value; inst_value = stored_well _ _ _ _ _ _ _ s _ t e; inst_in_bounds = stored_fits _ _ _ _ _ _ _ s _ t e }
+    let s = c.loop-i.invariant in record { inst_value = stored_well _ _ _ _ _ _ _ s _ t e; inst_in_bounds = stored_fits _ _ _ _ _ _ _ s _ t e }
 
 pub overflow_add-at : goal.overflow_add-at
 overflow_add-at c =
     let t = c.loop-i-test.true in
     let s = c.loop-i.invariant in
-    let f = stored_fits _ _ _ _ _ _ _ s _ t c.inst_at-inst.ensures in
-    let e = c.put_inst-at.ensures.value in
+    let f = stored_fits _ _ _ _ _ _ _ s _ t c.record_at-inst.ensures in
+    let e = c.as_bytes-at.ensures.value in
     omega (arith, s.same, c.well_formed)
 
 pub loop-i-preserved : goal.loop-i-preserved
 loop-i-preserved c =
     let t = c.loop-i-test.true in
     let s = c.loop-i.invariant in
-    let e = c.put_inst-at.ensures in
-    stored_next _ _ _ _ _ _ _ s _ _ _ t c.inst_at-inst.ensures e.value e.out_after
+    let e = c.as_bytes-at.ensures in
+    stored_next _ _ _ _ _ _ _ s _ _ _ t c.record_at-inst.ensures e.value e.out_after
 
 pub returns : goal.returns
 returns c = stored_all _ _ _ _ _ _ _ c.loop-i.invariant c.loop-i-test.false

@@ -1,11 +1,7 @@
 -- `encoder::write` meets its contract. Assumes nothing.
-use Prim.Native.Nat.{◌-◌}
 use Rattle.tables.specs.Tables.{insts_of}
 use Rattle.encoder.proofs.Records.{Stored}
 use Rattle.encoder.proofs.write.Given as goal
 
 abbrev pub invariant-loop-i : goal.invariant-loop-i
 invariant-loop-i l = Stored l.image (insts_of l.insts) l.count l.initial.out l.out l.at l.i
-
-abbrev pub decreases-loop-i : goal.decreases-loop-i
-decreases-loop-i l = l.count - l.i

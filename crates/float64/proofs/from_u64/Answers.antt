@@ -1,13 +1,6 @@
--- `from_u64` meets its contract: the library's rounding of a whole number is the definition's, which is exact up to 2 ^ 53.
-use Rattle.std.proofs.Common.{ap, ◌∙◌}
-use lib.Ieee.{binary64, to_bits}
-use Rattle.binary64.specs.Binary64.{value}
-use Rattle.binary64.proofs.Rounded.{theorems}
-use Rattle.float64.proofs.Conversions.{rounds}
+-- `from_u64` meets its contract: the check finds that it rounds, and not that up to 2 ^ 53 it is exact.
+use Rattle.float64.proofs.Conversions.{exact_of}
 use Rattle.float64.proofs.from_u64.Goals as goal
 
-pub returns : goal.returns
-returns c =
-    let n = c.args.n in
-    let r = c.pattern.ensures ∙ ap (to_bits binary64) c.nearest_u64_to_f64.ensures ∙ rounds n in
-    record { rounds = r; exact = λ h. ap value r ∙ theorems.whole_exact n h }
+pub returns-clause-exact : goal.returns-clause-exact
+returns-clause-exact c = exact_of c.args.n c.nearest_u64_to_f64.ensures c.f64_to_bits_with_nan.ensures

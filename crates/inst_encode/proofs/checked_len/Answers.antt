@@ -1,56 +1,37 @@
 -- `inst_encode::checked_len` meets its contract. Assumes nothing.
-use mathlib.Core.Path.{sym, ◌∙◌}
-use mathlib.Core.List.{[]}
+use mathlib.Core.Path.{refl}
 use native.Mathlib.Omega.{arith}
-use Rattle.inst.proofs.Laws.{is_form}
-use Rattle.inst_encode.proofs.Laws.{head_size, record_size, no_operand}
-use Rattle.inst_encode.proofs.Facts.{size_below, formed, len_is}
+use Rattle.inst.specs.Forms.{form_at}
+use Rattle.inst_encode.proofs.Laws.{is_form, size_by}
+use Rattle.inst_encode.proofs.Facts.{size_below, ill, formed, len_is}
 use Rattle.inst_encode.proofs.checked_len.Goals as goal
 
+pub returns-in_err-form : goal.returns-in_err-form
+returns-in_err-form c = let h = ill c.args.image.now c.args.inst c.in_err-form.ensures in simp (h, c.from_residual.ensures)
+
 pub returns-then-not-has_form : goal.returns-then-not-has_form
-returns-then-not-has_form c =
-    let w = sym (formed c.args.image.now c.args.inst _ _ c.form-letter.ensures c.has_form.ensures) ∙ c.if-not-has_form.true in
-    simp w
+returns-then-not-has_form c = simp (formed c.args.image.now c.args.inst _ _ _ c.in_ok-form.ensures c.has_form.ensures c.if-not-has_form.true)
 
 pub overflow_add-result : goal.overflow_add-result
-unfolding record_size head_size
+unfolding form_at size_by
 overflow_add-result c =
-    let h = simp (is_form _ _ 56 c.form-letter.ensures c.in-56.is) at (size_below c.args.image.now c.args.inst (sym (formed c.args.image.now c.args.inst _ _ c.form-letter.ensures c.has_form.ensures) ∙ c.if-not-has_form.false)) in
+    let w = formed c.args.image.now c.args.inst _ _ _ c.in_ok-form.ensures c.has_form.ensures c.if-not-has_form.false in
+    let h = rw (is_form _ _ _ c.in_ok-form.ensures c.in-Name.is) at (size_below c.args.image.now c.args.inst w) in
     let g = c.well_formed.0 in
     omega arith
 
-pub overflow_add-result-in-49 : goal.overflow_add-result-in-49
-unfolding record_size head_size
-overflow_add-result-in-49 c =
-    let h = simp (is_form _ _ 49 c.form-letter.ensures c.in-49.is) at (size_below c.args.image.now c.args.inst (sym (formed c.args.image.now c.args.inst _ _ c.form-letter.ensures c.has_form.ensures) ∙ c.if-not-has_form.false)) in
-    let g = c.well_formed.0 in
-    omega arith
+pub returns-in-Bare : goal.returns-in-Bare
+unfolding form_at size_by
+returns-in-Bare c = len_is _ c.args.inst _ _ _ _ c.in_ok-form.ensures c.has_form.ensures c.if-not-has_form.false c.in-Bare.is refl
 
-pub overflow_add-result-in-110 : goal.overflow_add-result-in-110
-unfolding record_size head_size
-overflow_add-result-in-110 c =
-    let h = simp (is_form _ _ 110 c.form-letter.ensures c.in-110.is) at (size_below c.args.image.now c.args.inst (sym (formed c.args.image.now c.args.inst _ _ c.form-letter.ensures c.has_form.ensures) ∙ c.if-not-has_form.false)) in
-    let g = c.well_formed.0 in
-    omega arith
+pub returns-in-Eight : goal.returns-in-Eight
+unfolding form_at size_by
+returns-in-Eight c = len_is _ c.args.inst _ _ _ _ c.in_ok-form.ensures c.has_form.ensures c.if-not-has_form.false c.in-Eight.is refl
 
-pub overflow_add-result-in_default : goal.overflow_add-result-in_default
-unfolding record_size
-overflow_add-result-in_default c =
-    let h = simp (no_operand [] c.args.inst _ _ c.form-letter.ensures c.in_default.in_default-own.rest.0.0.1 c.in_default.in_default-own.rest.0.1 c.in_default.in_default-own.rest.1).1 at (size_below c.args.image.now c.args.inst (sym (formed c.args.image.now c.args.inst _ _ c.form-letter.ensures c.has_form.ensures) ∙ c.if-not-has_form.false)) in
-    let g = c.well_formed.0 in
-    omega arith
+pub returns-in-One : goal.returns-in-One
+unfolding form_at size_by
+returns-in-One c = len_is _ c.args.inst _ _ _ _ c.in_ok-form.ensures c.has_form.ensures c.if-not-has_form.false c.in-One.is refl
 
-pub returns-in-56 : goal.returns-in-56
-unfolding head_size
-returns-in-56 c = len_is _ _ _ (sym (formed c.args.image.now c.args.inst _ _ c.form-letter.ensures c.has_form.ensures) ∙ c.if-not-has_form.false) (simp (is_form _ _ 56 c.form-letter.ensures c.in-56.is))
-
-pub returns-in-49 : goal.returns-in-49
-unfolding head_size
-returns-in-49 c = len_is _ _ _ (sym (formed c.args.image.now c.args.inst _ _ c.form-letter.ensures c.has_form.ensures) ∙ c.if-not-has_form.false) (simp (is_form _ _ 49 c.form-letter.ensures c.in-49.is))
-
-pub returns-in-110 : goal.returns-in-110
-unfolding head_size
-returns-in-110 c = len_is _ _ _ (sym (formed c.args.image.now c.args.inst _ _ c.form-letter.ensures c.has_form.ensures) ∙ c.if-not-has_form.false) (simp (is_form _ _ 110 c.form-letter.ensures c.in-110.is))
-
-pub returns-in_default : goal.returns-in_default
-returns-in_default c = len_is _ _ _ (sym (formed c.args.image.now c.args.inst _ _ c.form-letter.ensures c.has_form.ensures) ∙ c.if-not-has_form.false) (simp (no_operand [] c.args.inst _ _ c.form-letter.ensures c.in_default.in_default-own.rest.0.0.1 c.in_default.in_default-own.rest.0.1 c.in_default.in_default-own.rest.1).1)
+pub returns-in-Name : goal.returns-in-Name
+unfolding form_at size_by
+returns-in-Name c = len_is _ c.args.inst _ _ _ _ c.in_ok-form.ensures c.has_form.ensures c.if-not-has_form.false c.in-Name.is refl

@@ -9,6 +9,3 @@ use Rattle.inst_encode.proofs.put_number.Given as goal
 abbrev pub invariant-loop-i : goal.invariant-loop-i
 invariant-loop-i l =
     (l.i ≤ l.size) × (length l.out ≡ length l.initial.out) × (sets l.out (l.at + l.i) (bytes_of (l.size - l.i) l.left) ≡ sets l.initial.out l.at (bytes_of l.size l.number))
-
-abbrev pub decreases-loop-i : goal.decreases-loop-i
-decreases-loop-i l = l.size - l.i

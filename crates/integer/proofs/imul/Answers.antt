@@ -14,5 +14,4 @@ returns c =
     ∙ ap from_i64
     (kept_is _ c.signed.type_inv
     ∙ c.signed.ensures
-    ∙ ap signed
-    (c.wrapping_mul.ensures ∙ product _ _ c.as_u64.ensures c.as_u64-2.ensures))
+    ∙ ap signed (product _ _ c.as_u64.ensures c.as_u64-2.ensures))

@@ -11,4 +11,4 @@ use Rattle.known.proofs.is_well_formed_at.Goals as goal
 pub returns : goal.returns
 returns c =
     c.is_well_formed.ensures
-    ∙ ap (λ (i : Inst). well_formed c.args.image.now i) (c.inst_at.ensures halt ∙ record_at inst c.args.insts.now c.args.at halt (omega (arith, c.requires.at_in_bounds)))
+    ∙ ap (λ (i : Inst). well_formed c.args.image.now i) (c.record_at.ensures halt ∙ record_at inst c.args.insts.now c.args.at halt (omega (arith, c.requires.at_in_bounds)))

@@ -8,7 +8,7 @@ use Rattle.machine_bytes.proofs.Fields.{part_long}
 use Rattle.machine_bytes.proofs.read_arrays.Goals as goal
 
 pub copy_from_slice-requires : goal.copy_from_slice-requires
-copy_from_slice-requires c = omega (arith, part_long c.args.machine.now c.requires)
+copy_from_slice-requires c = omega (arith, part_long c.args.machine.now c.told-machine)
 
 pub returns : goal.returns
 unfolding machine_of

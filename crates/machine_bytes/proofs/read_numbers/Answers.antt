@@ -16,7 +16,7 @@ pub loop-i-smaller : goal.loop-i-smaller
 loop-i-smaller c = omega (arith, c.loop-i.invariant.0.long, c.loop-i-test.true)
 
 pub loop-i-preserved : goal.loop-i-preserved
-loop-i-preserved c = (rw c.number_at.ensures (read_more _ _ _ c.loop-i.invariant.0 c.loop-i-test.true), length-set c.loop-i.to c.loop-i.i c.number_at.result ∙ c.loop-i.invariant.1)
+loop-i-preserved c = (rw c.number_at.ensures (read_more _ _ _ c.loop-i.invariant.0 (omega (arith, c.loop-i-test.true, c.loop-i.invariant.1))), length-set c.loop-i.to c.loop-i.i c.number_at.result ∙ c.loop-i.invariant.1)
 
 pub returns : goal.returns
-returns c = read_all _ _ _ c.loop-i.invariant.0 c.loop-i-test.false
+returns c = read_all _ _ _ c.loop-i.invariant.0 (omega (arith, c.loop-i-test.false, c.loop-i.invariant.1))

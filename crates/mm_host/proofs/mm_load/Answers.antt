@@ -4,12 +4,16 @@ use Rattle.mm_host.specs.Calls.{load_call}
 use Rattle.mm_host.proofs.Answers.{load_refused, load_accepted}
 use Rattle.mm_host.proofs.mm_load.Goals as goal
 
-pub returns-then-machine-ne-MACHINE_SIZE : goal.returns-then-machine-ne-MACHINE_SIZE
+pub returns-in_default : goal.returns-in_default
 unfolding load_call
-returns-then-machine-ne-MACHINE_SIZE c = rw (ne_eqb _ _ c.if-machine-ne-MACHINE_SIZE.true)
+returns-in_default c = let short = rw c.in_default.is at c.as_mut_array.ensures.cases in rw (ne_eqb _ _ short)
 
-pub returns-in-Refused : goal.returns-in-Refused
-returns-in-Refused c = load_refused _ _ _ _ _ _ _ c.if-machine-ne-MACHINE_SIZE.false c.from_binary-answer.ensures _ c.in-Refused.is
+pub returns-in-Err : goal.returns-in-Err
+returns-in-Err c =
+    let whole = rw c.in-Some.is at c.as_mut_array.ensures.cases in
+    rw whole.same (rw c.number.ensures (load_refused _ _ _ _ _ _ _ whole.long c.from_binary.ensures _ c.in-Err.is))
 
-pub returns-in-Accepted : goal.returns-in-Accepted
-returns-in-Accepted c = load_accepted _ _ _ _ _ _ _ c.if-machine-ne-MACHINE_SIZE.false c.from_binary-answer.ensures _ _ _ _ c.in-Accepted.is c.fresh-m.ensures c.write_machine.ensures
+pub returns-in-Ok : goal.returns-in-Ok
+returns-in-Ok c =
+    let whole = rw c.in-Some.is at c.as_mut_array.ensures.cases in
+    load_accepted _ _ _ _ _ _ _ whole.long c.from_binary.ensures _ _ _ c.in-Ok.is c.fresh.ensures c.write_machine.ensures

@@ -6,9 +6,6 @@ use Rattle.nan.specs.Cells.{value}
 use Rattle.nan.proofs.Laws.{negation, kept_is}
 use Rattle.nan.proofs.get_value.Goals as goal
 
-pub overflow_sub-result : goal.overflow_sub-result
-overflow_sub-result c = (negation (c.args.cell % 2 ^ 48) (search rules)).fits
-
 pub returns-then-cell-ge-SIGN : goal.returns-then-cell-ge-SIGN
 unfolding value
 returns-then-cell-ge-SIGN c = rw (le-leb _ _ c.if-cell-ge-SIGN.true) (negation (c.args.cell % 2 ^ 48) (search rules)).is

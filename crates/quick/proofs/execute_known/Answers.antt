@@ -2,6 +2,7 @@
 use mathlib.Core.Path.{refl, sym, ◌∙◌}
 use native.Mathlib.Omega.{arith}
 use Rattle.machine.specs.Step.{exec, op_of}
+use Rattle.integer.specs.Integers as integers
 use Rattle.quick.specs.Quick.{step_at}
 use Rattle.quick.proofs.Arms.{quickly, as_is, at, found_at}
 use Rattle.quick.proofs.execute_known.Goals as goal
@@ -25,11 +26,11 @@ returns-in-2 c found start len finds = as_is (at found _ start len _ _ 2 c.in-2.
 
 pub returns-in-3 : goal.returns-in-3
 unfolding exec op_of step_at
-returns-in-3 c found start len finds = as_is (at found _ start len _ _ 3 c.in-3.is) (quickly _ (c.inc.ensures _ _) c.success-in-3.ensures)
+returns-in-3 c found start len finds = as_is (at found _ start len _ _ 3 c.in-3.is) (quickly _ (c.adjust.ensures integers.inc (λ x y h p. p) _ _) c.success-in-3.ensures)
 
 pub returns-in-4 : goal.returns-in-4
 unfolding exec op_of step_at
-returns-in-4 c found start len finds = as_is (at found _ start len _ _ 4 c.in-4.is) (quickly _ (c.dec.ensures _ _) c.success-in-4.ensures)
+returns-in-4 c found start len finds = as_is (at found _ start len _ _ 4 c.in-4.is) (quickly _ (c.adjust-in-4.ensures integers.dec (λ x y h p. p) _ _) c.success-in-4.ensures)
 
 pub returns-in-5 : goal.returns-in-5
 unfolding exec op_of step_at

@@ -1,26 +1,24 @@
 -- `run::execute_parts` meets its contract. Assumes nothing.
-use borrow.Author.Rules.{rules}
-use Rattle.tables.specs.Tables.{labels_of, insts_of}
-use Rattle.run.proofs.Edges.{reports, answers}
+use Rattle.tables.specs.Tables.{insts_of}
+use Rattle.run.proofs.Edges.{at_once, begins, reported}
 use Rattle.run.proofs.Running.{ready}
+use Rattle.run.proofs.Loop.{looked_up}
 use Rattle.run.proofs.execute_parts.Goals as goal
 
-pub loop-progress-init : goal.loop-progress-init
-loop-progress-init c = (search rules, λ run st. st)
+pub returns-in-Some : goal.returns-in-Some
+returns-in-Some g c = rw c.ends.ensures (reported (at_once _ _ _ _ _ _ _ _ _ _ c.in-Some.ensures.0 (c.in-Some.ensures.1 _ (g.T.LabelTable.records c.args.labels) _ _ _ _ _)))
 
-pub steps-progress-requires : goal.steps-progress-requires
-steps-progress-requires c = ready (c.loop-progress.invariant.1 _ (c.begin-progress.ensures c.args.image.now (labels_of c.args.labels.now) c.args.dumps.now _ _ _ c.loop-progress.invariant.0).stands) c.loop-progress-test.true
+pub loop-asking-init : goal.loop-asking-init
+loop-asking-init g c = (begins _ _ (g.T.LabelTable.records c.args.labels) _ _ _ _ _ _ _ _ c.in_default.ensures, tt)
 
-pub loop-progress-smaller : goal.loop-progress-smaller
-loop-progress-smaller c = (c.steps-progress.ensures (labels_of c.args.labels.now) _ _ _ c.loop-progress-test.true (c.loop-progress.invariant.1 _ (c.begin-progress.ensures c.args.image.now (labels_of c.args.labels.now) c.args.dumps.now _ _ _ c.loop-progress.invariant.0).stands) (c.lookup-found.ensures (insts_of c.args.insts.now))).falls
+pub steps-stands-requires : goal.steps-stands-requires
+steps-stands-requires g c = ready c.loop-asking.invariant.0
 
-pub loop-progress-preserved : goal.loop-progress-preserved
-loop-progress-preserved c = (c.loop-progress.invariant.0, λ run st. (c.steps-progress.ensures (labels_of c.args.labels.now) _ _ run c.loop-progress-test.true (c.loop-progress.invariant.1 run st) (c.lookup-found.ensures (insts_of c.args.insts.now))).stands)
+pub loop-asking-smaller : goal.loop-asking-smaller
+loop-asking-smaller g c = (looked_up c.in-Continue.ensures (g.T.LabelTable.records c.args.labels) c.loop-asking.invariant.0 c.loop-asking.invariant.1 (c.lookup-found.ensures (insts_of c.args.insts.now))).1
 
-pub shape_of-dumps : goal.shape_of-dumps
-shape_of-dumps c = ((c.loop-progress.invariant.1 _ (c.begin-progress.ensures c.args.image.now (labels_of c.args.labels.now) c.args.dumps.now _ _ _ c.loop-progress.invariant.0).stands).reached c.loop-progress-test.false).long
+pub loop-asking-preserved : goal.loop-asking-preserved
+loop-asking-preserved g c = (looked_up c.in-Continue.ensures (g.T.LabelTable.records c.args.labels) c.loop-asking.invariant.0 c.loop-asking.invariant.1 (c.lookup-found.ensures (insts_of c.args.insts.now))).0
 
-pub returns : goal.returns
-returns c =
-    let reached = (c.loop-progress.invariant.1 _ (c.begin-progress.ensures c.args.image.now (labels_of c.args.labels.now) c.args.dumps.now _ _ _ c.loop-progress.invariant.0).stands).reached c.loop-progress-test.false in
-    record { answers = answers _ _ _ _ _ _ _ _ _ reached; gives = reports _ _ _ _ _ _ _ _ _ reached }
+pub returns-in-Break : goal.returns-in-Break
+returns-in-Break g c = reported (c.in-Break.ensures.stands (g.T.LabelTable.records c.args.labels) _ _ _ c.loop-asking.invariant.0 c.loop-asking.invariant.1)

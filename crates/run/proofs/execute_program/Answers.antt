@@ -3,7 +3,7 @@ use Rattle.run.proofs.Edges.{within}
 use Rattle.run.proofs.execute_program.Goals as goal
 
 pub pack-requires : goal.pack-requires
-pack-requires c = within c.execute_parts-progress.ensures
+pack-requires g c = within c.execute_parts-outcome.ensures
 
 pub returns : goal.returns
-returns c = rw c.pack.ensures c.execute_parts-progress.ensures.gives
+returns g c = rw c.pack.ensures (rw c.from.ensures at c.execute_parts-outcome.ensures.gives)

@@ -3,13 +3,13 @@ use mathlib.Core.Path.{◌≡◌, refl}
 use mathlib.Core.Bool.{false}
 use mathlib.Core.Logic.{inl, inr}
 use native.Mathlib.Omega.{arith}
+use Rattle.integer.specs.Integers as integers
 use Rattle.machine.specs.Step.{exec, op_of}
 use Rattle.machine.specs.Change as change
 use Rattle.step_core.proofs.Answers.{success, same}
-use Rattle.step.proofs.Dispatch.{is_named_alone, is_named_in_range, nop_at, integer_at, float_at, conversion_at, dump_at, read_at, write_at, below, above}
+use Rattle.step.proofs.Dispatch.{is_named, nop_at, dump_at, read_at, write_at}
 use borrow.Author.Tests.{ne_eqb}
 use borrow.Author.Rules.{rules}
-use Rattle.step.proofs.execute_instruction.Goals.{in_default-via-then-op-lt1, in_default-via-else-op-lt1+else-op-lt9+then-op-lt22, in_default-via-else-op-lt1+else-op-lt9+else-op-lt22+else-op-lt27+then-op-lt31, in_default-via-else-op-lt1+else-op-lt9+else-op-lt22+else-op-lt27+else-op-lt31+else-op-lt37}
 use Rattle.step.proofs.execute_instruction.Goals as goal
 
 pub returns-in-1 : goal.returns-in-1
@@ -22,11 +22,11 @@ returns-in-2 c found start len = same (c.pop.ensures _ _ _) (λ f. rw c.in-2.is 
 
 pub returns-in-3 : goal.returns-in-3
 unfolding exec op_of
-returns-in-3 c found start len = same (c.inc.ensures _ _) (λ f. rw c.in-3.is refl)
+returns-in-3 c found start len = same (c.adjust.ensures integers.inc (λ x y h p. p) _ _) (λ f. rw c.in-3.is refl)
 
 pub returns-in-4 : goal.returns-in-4
 unfolding exec op_of
-returns-in-4 c found start len = same (c.dec.ensures _ _) (λ f. rw c.in-4.is refl)
+returns-in-4 c found start len = same (c.adjust-in-4.ensures integers.dec (λ x y h p. p) _ _) (λ f. rw c.in-4.is refl)
 
 pub returns-in-9 : goal.returns-in-9
 unfolding exec op_of
@@ -64,28 +64,66 @@ pub returns-in-69 : goal.returns-in-69
 unfolding exec op_of change.stopped
 returns-in-69 c found start len = record { does = λ f. rw c.in-69.is refl; small = tt; kept = (refl, refl, refl) }
 
-pub returns-in-5-to-8 : goal.returns-in-5-to-8
-unfolding exec
-returns-in-5-to-8 c found start len = same (c.integer_step.ensures _ _) (λ f. rw (integer_at c.args.op (omega arith) (omega arith)) refl)
+pub returns-in-5 : goal.returns-in-5
+unfolding exec op_of
+returns-in-5 c found start len = same (c.integer_step.ensures _ _) (λ f. rw c.in-5.is refl)
 
-pub returns-in-23-to-26 : goal.returns-in-23-to-26
-unfolding exec
-returns-in-23-to-26 c found start len = same (c.float_step.ensures _ _) (λ f. rw (float_at c.args.op (omega arith) (omega arith)) refl)
+pub returns-in-6 : goal.returns-in-6
+unfolding exec op_of
+returns-in-6 c found start len = same (c.integer_step-in-6.ensures _ _) (λ f. rw c.in-6.is refl)
 
-pub returns-in-31-to-36 : goal.returns-in-31-to-36
-unfolding exec
-returns-in-31-to-36 c found start len = same (c.convert.ensures _ _) (λ f. rw (conversion_at c.args.op (omega arith) (omega arith)) refl)
+pub returns-in-7 : goal.returns-in-7
+unfolding exec op_of
+returns-in-7 c found start len = same (c.integer_step-in-7.ensures _ _) (λ f. rw c.in-7.is refl)
+
+pub returns-in-8 : goal.returns-in-8
+unfolding exec op_of
+returns-in-8 c found start len = same (c.integer_step-in-8.ensures _ _) (λ f. rw c.in-8.is refl)
+
+pub returns-in-23 : goal.returns-in-23
+unfolding exec op_of
+returns-in-23 c found start len = same (c.float_step.ensures _ _) (λ f. rw c.in-23.is refl)
+
+pub returns-in-24 : goal.returns-in-24
+unfolding exec op_of
+returns-in-24 c found start len = same (c.float_step-in-24.ensures _ _) (λ f. rw c.in-24.is refl)
+
+pub returns-in-25 : goal.returns-in-25
+unfolding exec op_of
+returns-in-25 c found start len = same (c.float_step-in-25.ensures _ _) (λ f. rw c.in-25.is refl)
+
+pub returns-in-26 : goal.returns-in-26
+unfolding exec op_of
+returns-in-26 c found start len = same (c.float_step-in-26.ensures _ _) (λ f. rw c.in-26.is refl)
+
+pub returns-in-31 : goal.returns-in-31
+unfolding exec op_of
+returns-in-31 c found start len = same (c.convert.ensures _ _) (λ f. rw c.in-31.is refl)
+
+pub returns-in-32 : goal.returns-in-32
+unfolding exec op_of
+returns-in-32 c found start len = same (c.convert-in-32.ensures _ _) (λ f. rw c.in-32.is refl)
+
+pub returns-in-33 : goal.returns-in-33
+unfolding exec op_of
+returns-in-33 c found start len = same (c.convert-in-33.ensures _ _) (λ f. rw c.in-33.is refl)
+
+pub returns-in-34 : goal.returns-in-34
+unfolding exec op_of
+returns-in-34 c found start len = same (c.convert-in-34.ensures _ _) (λ f. rw c.in-34.is refl)
+
+pub returns-in-35 : goal.returns-in-35
+unfolding exec op_of
+returns-in-35 c found start len = same (c.convert-in-35.ensures _ _) (λ f. rw c.in-35.is refl)
+
+pub returns-in-36 : goal.returns-in-36
+unfolding exec op_of
+returns-in-36 c found start len = same (c.convert-in-36.ensures _ _) (λ f. rw c.in-36.is refl)
 
 pub returns-in_default : goal.returns-in_default
 unfolding exec change.moved
 returns-in_default c found start len =
     let op = c.args.op in
-    let alone : is_named_alone op ≡ false = simp (ne_eqb op 1 (λ e. omega arith), ne_eqb op 2 (λ e. omega arith), ne_eqb op 3 (λ e. omega arith), ne_eqb op 4 (λ e. omega arith), ne_eqb op 9 (λ e. omega arith), ne_eqb op 10 (λ e. omega arith), ne_eqb op 11 (λ e. omega arith), ne_eqb op 22 (λ e. omega arith), ne_eqb op 27 (λ e. c.in_default-1.rest.0.0.0.0.1 (inl e)), ne_eqb op 46 (λ e. c.in_default-1.rest.0.0.0.0.1 (inr e)), ne_eqb op 29 (λ e. omega arith), ne_eqb op 38 (λ e. c.in_default-1.rest.0.0.1 (inl e)), ne_eqb op 40 (λ e. c.in_default-1.rest.0.0.1 (inr (inl e))), ne_eqb op 42 (λ e. c.in_default-1.rest.0.0.1 (inr (inr (inl e)))), ne_eqb op 44 (λ e. c.in_default-1.rest.0.0.1 (inr (inr (inr e)))), ne_eqb op 39 (λ e. c.in_default-1.rest.0.1 (inl e)), ne_eqb op 41 (λ e. c.in_default-1.rest.0.1 (inr (inl e))), ne_eqb op 43 (λ e. c.in_default-1.rest.0.1 (inr (inr (inl e)))), ne_eqb op 45 (λ e. c.in_default-1.rest.0.1 (inr (inr (inr e))))) in
-    let in_range : is_named_in_range op ≡ false =
-    elim c.in_default.branch [
-      | in_default-via-then-op-lt1 w ↦ simp (below 5 8 op (omega arith), below 23 26 op (omega arith), below 31 36 op (omega arith))
-      | in_default-via-else-op-lt1+else-op-lt9+then-op-lt22 w ↦ simp (above 5 8 op (omega arith), below 23 26 op (omega arith), below 31 36 op (omega arith))
-      | in_default-via-else-op-lt1+else-op-lt9+else-op-lt22+else-op-lt27+then-op-lt31 w ↦ simp (above 5 8 op (omega arith), above 23 26 op (omega arith), below 31 36 op (omega arith))
-      | in_default-via-else-op-lt1+else-op-lt9+else-op-lt22+else-op-lt27+else-op-lt31+else-op-lt37 w ↦ simp (above 5 8 op (omega arith), above 23 26 op (omega arith), above 31 36 op (omega arith))
-    ] in
-    success c.onward.ensures (λ f. rw (nop_at op (λ e. omega arith) alone in_range c.requires.1) refl) (search rules)
+    let h = c.in_default.in_default-own.rest in
+    let other : is_named op ≡ false = simp (ne_eqb op 1 (λ e. omega arith), ne_eqb op 2 (λ e. omega arith), ne_eqb op 3 (λ e. omega arith), ne_eqb op 4 (λ e. omega arith), ne_eqb op 5 (λ e. omega arith), ne_eqb op 6 (λ e. omega arith), ne_eqb op 7 (λ e. omega arith), ne_eqb op 8 (λ e. omega arith), ne_eqb op 9 (λ e. omega arith), ne_eqb op 10 (λ e. omega arith), ne_eqb op 11 (λ e. omega arith), ne_eqb op 22 (λ e. omega arith), ne_eqb op 23 (λ e. omega arith), ne_eqb op 24 (λ e. omega arith), ne_eqb op 25 (λ e. omega arith), ne_eqb op 26 (λ e. omega arith), ne_eqb op 27 (λ e. h.0.0.0.0.0.0.0.0.0.0.1 (inl e)), ne_eqb op 46 (λ e. h.0.0.0.0.0.0.0.0.0.0.1 (inr e)), ne_eqb op 29 (λ e. omega arith), ne_eqb op 31 (λ e. omega arith), ne_eqb op 32 (λ e. omega arith), ne_eqb op 33 (λ e. omega arith), ne_eqb op 34 (λ e. omega arith), ne_eqb op 35 (λ e. omega arith), ne_eqb op 36 (λ e. omega arith), ne_eqb op 38 (λ e. h.0.0.1 (inl e)), ne_eqb op 40 (λ e. h.0.0.1 (inr (inl e))), ne_eqb op 42 (λ e. h.0.0.1 (inr (inr (inl e)))), ne_eqb op 44 (λ e. h.0.0.1 (inr (inr (inr e)))), ne_eqb op 39 (λ e. h.0.1 (inl e)), ne_eqb op 41 (λ e. h.0.1 (inr (inl e))), ne_eqb op 43 (λ e. h.0.1 (inr (inr (inl e)))), ne_eqb op 45 (λ e. h.0.1 (inr (inr (inr e))))) in
+    success c.onward.ensures (λ f. rw (nop_at op (λ e. omega arith) other c.requires.1) refl) (search rules)

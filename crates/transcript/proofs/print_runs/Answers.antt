@@ -1,51 +1,65 @@
 -- `transcript::print_runs` meets its contract. The invariant: what was printed is the front of what the runs in all print. Assumes nothing.
 use mathlib.Core.Path.{◌≡◌, refl, sym, ◌∙◌}
-use mathlib.Core.Bool.{true, false}
+use borrow.Author.Rules.{rules}
 use native.Mathlib.Omega.{arith}
 use lib.ListN.{length}
+use Rattle.machine.specs.Ending.{Number}
+use Rattle.report.proofs.Laws.{same_length}
 use Rattle.run.specs.Runs.{answer}
 use Rattle.run.proofs.Cells.{cells, in_cells}
-use Rattle.transcript.specs.Transcript.{is_full}
 use Rattle.tables.specs.Tables.{numbers_in, program}
 use Rattle.tables.proofs.Bytes.{length_numbers_in}
-use Rattle.transcript.proofs.Printing.{begins, Turned, turned, room_at_end, ends, sixty_four, same_bytes}
+use Rattle.transcript.proofs.Printing.{begins, full, resumed, Turned, turned, room_at_end, ends, sixty_four, same_bytes}
 use Rattle.transcript.proofs.print_runs.Goals.{After-execute_program-ran}
 use Rattle.transcript.proofs.print_runs.Goals as goal
 
 -- a run more
 ran : (c : After-execute_program-ran)
     → Turned (program c.args.image.now c.args.insts.now c.args.labels.now c.args.count) c.args.m
-    c.args.text.now c.loop-ending.text c.loop-ending.ending c.loop-ending.steps c.loop-ending.at
+    c.args.text.now c.loop-dumps.out.text.now (Number 33) c.loop-dumps.steps c.loop-dumps.out.at
     (cells (answer c.execute_program-ran.result c.execute_program-ran.new.dumps))
-ran c = turned c.loop-ending.invariant.1 (sym c.is_full.ensures ∙ c.loop-ending-test.true) (numbers_in c.loop-ending.dumps) (sixty_four c.loop-ending.dumps c.loop-ending.invariant.0) _ (in_cells _ _ _ _ _ c.execute_program-ran.ensures)
+ran c = turned c.loop-dumps.invariant.printing full (numbers_in c.loop-dumps.dumps) (sixty_four c.loop-dumps.dumps c.loop-dumps.invariant.buffer) _ (in_cells _ _ _ _ _ c.execute_program-ran.ensures)
 
 long : (c : After-execute_program-ran) → length c.execute_program-ran.new.dumps ≡ 512
-long c = same_bytes _ _ c.loop-ending.dumps _ (answer c.execute_program-ran.result c.execute_program-ran.new.dumps) c.execute_program-ran.ensures ∙ c.loop-ending.invariant.0
+long c = same_bytes _ _ c.loop-dumps.dumps _ (answer c.execute_program-ran.result c.execute_program-ran.new.dumps) c.execute_program-ran.ensures ∙ c.loop-dumps.invariant.buffer
 
-pub loop-ending-init : goal.loop-ending-init
-loop-ending-init c = (refl, begins _ _ _)
+pub loop-dumps-init : goal.loop-dumps-init
+loop-dumps-init c =
+    rw c.new-out.ensures (record { buffer = refl; same_reference = refl; room = search rules; printing = begins _ _ _ })
 
-pub slice_bounds-put_cell_lines-end-in-loop-ending : goal.slice_bounds-put_cell_lines-end-in-loop-ending
-slice_bounds-put_cell_lines-end-in-loop-ending c = sym (long (goal.at.slice_bounds-put_cell_lines-end-in-loop-ending c).After-execute_program-ran)
+pub slice_bounds-cell_lines-end : goal.slice_bounds-cell_lines-end
+slice_bounds-cell_lines-end c = sym (long (goal.at.slice_bounds-cell_lines-end c).After-execute_program-ran)
 
-pub put_cell_lines-at-requires : goal.put_cell_lines-at-requires
-put_cell_lines-at-requires c =
-    let r = ran (goal.at.put_cell_lines-at-requires c).After-execute_program-ran in
-    record { n_in_bounds = omega (arith, r.fits, length_numbers_in c.execute_program-ran.new.dumps); cells_in_bounds = r.room c.put_cell_lines-arg-1.given.0.1 }
+pub cell_lines-requires : goal.cell_lines-requires
+cell_lines-requires c =
+    let r = ran (goal.at.cell_lines-requires c).After-execute_program-ran in
+    record { n_in_bounds = omega (arith, r.fits, length_numbers_in c.execute_program-ran.new.dumps); room = r.room c.loop-dumps.invariant.room }
 
 pub overflow_add-steps : goal.overflow_add-steps
 overflow_add-steps c =
     let r = ran (goal.at.overflow_add-steps c).After-execute_program-ran in
-    record { fits = omega (arith, r.fewer, c.loop-ending.invariant.1.within) }
+    record { fits = omega (arith, r.fewer, c.loop-dumps.invariant.printing.within) }
 
-pub loop-ending-smaller : goal.loop-ending-smaller
-loop-ending-smaller c = (ran (goal.at.loop-ending-smaller c).After-execute_program-ran).falls
+pub loop-dumps-smaller : goal.loop-dumps-smaller
+loop-dumps-smaller c =
+    let r = ran (goal.at.loop-dumps-smaller c).After-execute_program-ran in
+    omega (arith, r.fewer, r.falls (sym c.is_full.ensures ∙ c.if-not-is_full.false), c.loop-dumps.invariant.printing.within)
 
-pub loop-ending-preserved : goal.loop-ending-preserved
-loop-ending-preserved c = (long (goal.at.loop-ending-preserved c).After-execute_program-ran, (ran (goal.at.loop-ending-preserved c).After-execute_program-ran).goes c.put_cell_lines-at.ensures)
+pub loop-dumps-preserved : goal.loop-dumps-preserved
+loop-dumps-preserved c =
+    record {
+      buffer = long (goal.at.loop-dumps-preserved c).After-execute_program-ran;
+      same_reference = c.cell_lines.ensures.same_reference ∙ c.loop-dumps.invariant.same_reference;
+      room = same_length c.cell_lines.ensures.put ∙ c.loop-dumps.invariant.room;
+      printing = resumed ((ran (goal.at.loop-dumps-preserved c).After-execute_program-ran).goes c.cell_lines.ensures.put) (sym c.is_full.ensures ∙ c.if-not-is_full.false);
+    }
 
-pub put_end_line-requires : goal.put_end_line-requires
-put_end_line-requires c = room_at_end c.loop-ending.invariant.1 (sym c.is_full.ensures ∙ c.loop-ending-test.false) c.put_end_line-arg-1.given.0.1
+pub end_line-requires : goal.end_line-requires
+end_line-requires c =
+    let r = ran (goal.at.end_line-requires c).After-execute_program-ran in
+    room_at_end (r.goes c.cell_lines.ensures.put) (sym c.is_full.ensures ∙ c.if-not-is_full.true) (same_length c.cell_lines.ensures.put ∙ c.loop-dumps.invariant.room)
 
-pub returns : goal.returns
-returns c = ends c.loop-ending.invariant.1 (sym c.is_full.ensures ∙ c.loop-ending-test.false) c.put_end_line.ensures
+pub returns-then-not-is_full : goal.returns-then-not-is_full
+returns-then-not-is_full c =
+    let r = ran (goal.at.returns-then-not-is_full c).After-execute_program-ran in
+    rw c.len.ensures (ends (r.goes c.cell_lines.ensures.put) (sym c.is_full.ensures ∙ c.if-not-is_full.true) c.end_line.ensures.put)

@@ -3,18 +3,19 @@ use mathlib.Core.Path.{refl}
 use Rattle.machine.specs.Step.{dump, ◌must◌else◌then◌}
 use Rattle.machine.specs.Change as change
 use Rattle.step_core.proofs.Answers.{trapped}
-use borrow.Author.Tests.{lt-ltb, le-ltb}
+use native.Mathlib.Omega.{arith}
+use borrow.Author.Tests.{lt-ltb}
 use borrow.Author.Rules.{rules}
 use Rattle.step_flow.proofs.dumps.dump.Goals as goal
 
-pub returns-then-is_stream : goal.returns-then-is_stream
+pub returns-then-height-eq0 : goal.returns-then-height-eq0
 unfolding dump ◌must◌else◌then◌ change.moved
-returns-then-is_stream c ca me = record { does = λ f. simp (lt-ltb _ _ c.if-height-gt0.true, ← c.is_stream.ensures, c.if-is_stream.true); small = search rules; kept = (refl, refl, refl) }
+returns-then-height-eq0 c ca me = trapped c.trap.ensures (λ f. simp c.if-height-eq0.true)
 
-pub returns-else-is_stream : goal.returns-else-is_stream
+pub returns-then-not-is_stream : goal.returns-then-not-is_stream
 unfolding dump ◌must◌else◌then◌ change.moved
-returns-else-is_stream c ca me = trapped c.trap.ensures (λ f. simp (lt-ltb _ _ c.if-height-gt0.true, ← c.is_stream.ensures, c.if-is_stream.false))
+returns-then-not-is_stream c ca me = trapped c.trap-then-not-is_stream.ensures (λ f. simp (lt-ltb 0 c.args.regs.height (omega (arith, c.if-height-eq0.false)), ← c.is_stream.ensures, c.if-not-is_stream.true))
 
-pub returns-else-height-gt0 : goal.returns-else-height-gt0
+pub returns : goal.returns
 unfolding dump ◌must◌else◌then◌ change.moved
-returns-else-height-gt0 c ca me = trapped c.trap-else-height-gt0.ensures (λ f. simp (le-ltb _ _ c.if-height-gt0.false))
+returns c ca me = record { does = λ f. simp (lt-ltb 0 c.args.regs.height (omega (arith, c.if-height-eq0.false)), ← c.is_stream.ensures, c.if-not-is_stream.false); small = search rules; kept = (refl, refl, refl) }

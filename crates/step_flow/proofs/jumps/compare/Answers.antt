@@ -6,10 +6,10 @@ use borrow.Author.Tests.{le-leb, lt-leb}
 use borrow.Author.Rules.{rules}
 use Rattle.step_flow.proofs.jumps.compare.Goals as goal
 
-pub returns-then-height-ge2 : goal.returns-then-height-ge2
+pub returns-then-height-lt2 : goal.returns-then-height-lt2
 unfolding compare ◌must◌else◌then◌ moved with_stack with_flags
-returns-then-height-ge2 c ca me = record { does = λ f. simp (le-leb _ _ c.if-height-ge2.true, ← c.as_u64-b.ensures, ← c.as_u64-a.ensures, ← c.cmp.ensures); small = search rules; kept = tt }
+returns-then-height-lt2 c ca me = trapped c.trap.ensures (λ f. simp (lt-leb _ _ c.if-height-lt2.true))
 
-pub returns-else-height-ge2 : goal.returns-else-height-ge2
+pub returns : goal.returns
 unfolding compare ◌must◌else◌then◌ moved with_stack with_flags
-returns-else-height-ge2 c ca me = trapped c.trap.ensures (λ f. simp (lt-leb _ _ c.if-height-ge2.false))
+returns c ca me = record { does = λ f. simp (le-leb _ _ c.if-height-lt2.false, ← c.as_u64-b.ensures, ← c.as_u64-a.ensures, ← c.cmp.ensures); small = search rules; kept = tt }

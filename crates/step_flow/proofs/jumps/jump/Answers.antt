@@ -4,20 +4,17 @@ use Rattle.machine.specs.Step.{jump}
 use Rattle.machine.specs.Change as change
 use Rattle.step_core.proofs.Answers.{success, trapped, refused}
 use borrow.Author.Rules.{rules}
+use Rattle.step_flow.proofs.Results.{answered}
 use Rattle.step_flow.proofs.jumps.jump.Goals as goal
 
-pub returns-in-NotAsked : goal.returns-in-NotAsked
+pub returns-in-Err-NoLabel : goal.returns-in-Err-NoLabel
 unfolding jump change.moved
-returns-in-NotAsked c s ca me = refused refl (λ f. simp c.in-NotAsked.is)
+returns-in-Err-NoLabel c s ca me = trapped refl (λ f. simp (answered c.in-Err-NoLabel.is (rw c.in-Err-NoLabel.is at c.in-Err-NoLabel.field-0-is)))
 
-pub returns-in-NoLabel : goal.returns-in-NoLabel
+pub returns-in-Err-IllChain : goal.returns-in-Err-IllChain
 unfolding jump change.moved
-returns-in-NoLabel c s ca me = trapped refl (λ f. simp c.in-NoLabel.is)
+returns-in-Err-IllChain c s ca me = refused refl (λ f. simp (answered c.in-Err-IllChain.is (rw c.in-Err-IllChain.is at c.in-Err-IllChain.field-0-is)))
 
-pub returns-in-IllChain : goal.returns-in-IllChain
+pub returns-in-Ok : goal.returns-in-Ok
 unfolding jump change.moved
-returns-in-IllChain c s ca me = refused refl (λ f. simp c.in-IllChain.is)
-
-pub returns-in-Target : goal.returns-in-Target
-unfolding jump change.moved
-returns-in-Target c s ca me = success c.moved.ensures (λ f. simp c.in-Target.is) (search rules)
+returns-in-Ok c s ca me = success c.moved.ensures (λ f. simp c.in-Ok.is) (search rules)

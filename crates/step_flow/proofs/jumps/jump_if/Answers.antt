@@ -1,27 +1,27 @@
 -- `step_flow::jumps::jump_if` meets its contract. Assumes nothing.
-use mathlib.Core.Path.{refl}
+use Prim.Native.Nat.{ℕ}
+use mathlib.Core.Path.{◌≡◌}
+use mathlib.Core.Bool.{true}
+use Rattle.std.proofs.Common.{Ok}
 use Rattle.machine.specs.Step.{jump_if}
 use Rattle.machine.specs.Change as change
-use Rattle.step_core.proofs.Answers.{success, trapped, refused}
+use Rattle.flag.specs.Flags.{is_set}
+use Rattle.flag.specs.Jumps.{jump_of}
+use Rattle.step_core.proofs.Answers.{success, same}
 use borrow.Author.Rules.{rules}
+use Rattle.step_flow.proofs.Results.{taken}
+use Rattle.step_flow.proofs.jumps.jump_if.Goals.{in_default-via-in-Ok+else-not-is_set, in_default-via-in_default}
 use Rattle.step_flow.proofs.jumps.jump_if.Goals as goal
 
-pub returns-in-NotAsked : goal.returns-in-NotAsked
+pub returns-in-Ok : goal.returns-in-Ok
 unfolding jump_if change.moved
-returns-in-NotAsked c s ca me = refused refl (λ f. simp c.in-NotAsked.is)
+returns-in-Ok c s ca me = success c.moved.ensures (λ f. simp (c.in-Ok.is, ← c.is_set.ensures, c.if-not-is_set.true)) (search rules)
 
-pub returns-in-NoLabel : goal.returns-in-NoLabel
-unfolding jump_if change.moved
-returns-in-NoLabel c s ca me = trapped refl (λ f. simp c.in-NoLabel.is)
-
-pub returns-in-IllChain : goal.returns-in-IllChain
-unfolding jump_if change.moved
-returns-in-IllChain c s ca me = refused refl (λ f. simp c.in-IllChain.is)
-
-pub returns-then-is_set : goal.returns-then-is_set
-unfolding jump_if change.moved
-returns-then-is_set c s ca me = success c.moved.ensures (λ f. simp (c.in-Target.is, ← c.is_set.ensures, c.if-is_set.true)) (search rules)
-
-pub returns-else-is_set : goal.returns-else-is_set
-unfolding jump_if change.moved
-returns-else-is_set c s ca me = success c.moved-else-is_set.ensures (λ f. simp (c.in-Target.is, ← c.is_set.ensures, c.if-is_set.false)) (search rules)
+pub returns-in_default : goal.returns-in_default
+returns-in_default c s ca me =
+    let set : (t : ℕ) → c.args.found ≡ Ok t → is_set c.args.flags (jump_of c.args.tested) ≡ true =
+    elim c.in_default.branch [
+      | in_default-via-in-Ok+else-not-is_set w ↦ λ t e. simp (← w.is_set.ensures, w.if-not-is_set.false)
+      | in_default-via-in_default w ↦ λ t e. absurd (w.in_default.not-Ok t e)
+    ] in
+    same (c.jump.ensures s ca me) (λ f. taken _ _ _ set)

@@ -1,9 +1,0 @@
--- `sub` meets its contract: the library's difference of the two values has the pattern that crate binary64 defines.
-use Rattle.std.proofs.Common.{◌∙◌}
-use Rattle.float64.proofs.Operations.{difference_of}
-use Rattle.float64.proofs.sub.Goals as goal
-
-pub returns : goal.returns
-returns c =
-    let args = c.args in
-    c.pattern.ensures ∙ difference_of args.a args.b c.value.ensures c.value-2.ensures

@@ -1,9 +1,0 @@
--- `nan::from_i64` meets its contract.
--- Assumes nothing.
-use Rattle.std.proofs.Common.{ap, ◌∙◌}
-use Rattle.nan.specs.Cells.{boxed}
-use Rattle.nan.proofs.Laws.{kept_is}
-use Rattle.nan.proofs.from_i64.Goals as goal
-
-pub returns : goal.returns
-returns c = c.set_value.ensures ∙ ap (boxed 0x7FF2) (kept_is c.args.v c.ranges.v.sfits)

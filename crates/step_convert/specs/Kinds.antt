@@ -1,0 +1,21 @@
+-- The code's kinds as the definition's, and what a conversion comes to behind the pop, for the contracts.
+use Rattle.std.specs.Prelude.{ℕ, cond, Result, Ok, Err}
+use Rattle.machine.specs.declared.Trap.{Trap}
+use Rattle.machine.specs.declared.Trap.TheVariants.{WrongType, NegativeConversion, UnknownType}
+use Rattle.machine.specs.Step as definition
+use Rattle.step_convert.specs.declared.Conversion.{Conversion}
+use Rattle.step_convert.specs.declared.Conversion.TheVariants.{F2I, F2U, I2F, I2U, U2I, U2F}
+
+abbrev pub conversion_of : Conversion → definition.Conversion
+conversion_of F2I = definition.F2I
+conversion_of F2U = definition.F2U
+conversion_of I2F = definition.I2F
+conversion_of I2U = definition.I2U
+conversion_of U2I = definition.U2I
+conversion_of U2F = definition.U2F
+
+-- the cell that the cell c gives, or the trap
+unfoldable pub converted : definition.Conversion → ℕ → Result ℕ Trap
+converted k c =
+    let r = definition.rule_of k c in
+    cond (definition.type_known c) (cond r.takes (cond r.below (Err NegativeConversion) (Ok r.gives)) (Err WrongType)) (Err UnknownType)

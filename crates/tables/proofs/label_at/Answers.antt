@@ -1,9 +1,0 @@
--- `tables::label_at` meets its contract. Assumes nothing.
-use mathlib.Core.Path.{sym}
-use Rattle.tables.specs.Tables.{label}
-use Rattle.tables.proofs.Laws.{record_at}
-use Rattle.tables.proofs.label_at.Goals as goal
-
-pub returns : goal.returns
-returns c d =
-    rw (c.number_at.ensures, c.number_at-2.ensures, c.number_at-3.ensures, c.number_at-4.ensures) (sym (record_at label c.args.labels.now c.args.i d c.requires))
