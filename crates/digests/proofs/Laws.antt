@@ -1,5 +1,5 @@
 -- Laws of digests. Assumes nothing.
-use Prim.Native.Nat.{ℕ, suc, ◌+◌, ◌≤◌, ◌<◌}
+use Prim.Native.Nat.{ℕ, zero, suc, ◌+◌, ◌*◌, ◌≤◌, ◌<◌}
 use mathlib.Core.Path.{◌≡◌, refl}
 use mathlib.Core.Bool.{Bool, true, false, cond}
 use mathlib.Core.List.{List, [], ◌∷◌, ◌++◌}
@@ -12,15 +12,28 @@ use lib.Seq.{drop-cons}
 use Rattle.machine.specs.declared.Machine.{Machine}
 use Rattle.machine.specs.Lookup.{Program}
 use Rattle.machine.specs.Run.{Result}
-use Rattle.std.specs.Int.{from_bool}
+use Rattle.std.specs.Int.{from_bool, w32, from_le_bytes}
+use Rattle.std.specs.Simd.{first_chunks}
+use Rattle.tables.specs.Tables.{records_of}
 use Rattle.std.specs.List.{fold}
 use Rattle.std.proofs.lemmas.List.Sums.{fold-append}
-use Rattle.digests.specs.Digests.{mixed, stepped, digest_after, agreeing}
+use Rattle.digests.specs.Digests.{mixed, stepped, digest_after, agreeing, word}
 
 -- a `bool` as a number
 pub of_bool : (b : Bool) → from_bool b ≡ cond b 1 0
 of_bool true = refl
 of_bool false = refl
+
+-- digest i, as four bytes of those recorded and as one of the list
+pub chunk_is : (k i : ℕ) (bs : List ℕ) → i < k → k * 4 ≤ length bs → from_le_bytes w32 (get_or (first_chunks 4 k bs) i []) ≡ get_or (records_of word bs) i 0
+unfolding records_of word
+chunk_is zero i bs h l = absurd (omega arith)
+chunk_is (suc k) i [] h l = absurd (omega arith)
+chunk_is (suc k) i (a ∷ []) h l = absurd (omega arith)
+chunk_is (suc k) i (a ∷ b ∷ []) h l = absurd (omega arith)
+chunk_is (suc k) i (a ∷ b ∷ c ∷ []) h l = absurd (omega arith)
+chunk_is (suc k) zero (a ∷ b ∷ c ∷ d ∷ bs) h l = omega arith
+chunk_is (suc k) (suc i) (a ∷ b ∷ c ∷ d ∷ bs) h l = chunk_is k i bs (omega arith) (omega arith)
 
 -- the parts of a digest
 pub parts : (xs ys zs us : List ℕ) (a b c r : ℕ) → a ≡ fold mixed 7 xs → b ≡ fold mixed a ys → c ≡ fold mixed b zs → r ≡ fold mixed c us

@@ -3,7 +3,7 @@
 #![tactic(auto)]
 
 ghost use Rattle.std.specs.List.{fold};
-ghost use Rattle.std.specs.Prelude.{◌≡◌, take, ◌+◌, ◌*◌, ◌≤◌, length, get_or};
+ghost use Rattle.std.specs.Prelude.{◌≡◌, take};
 ghost use Rattle.tables.specs.Tables.{program, records_of};
 ghost use Rattle.digests.specs.Digests as digests;
 ghost use Rattle.digests.specs.Digests.{once, mixed, digest_of, agreeing};
@@ -17,7 +17,7 @@ use tables::{NUMBER, number_at};
 // What a digest is computed by: its modulus, and what a number's halves are below.
 const PRIME: u64 = 4294967291;
 
-const HALF: u64 = 4294967296;
+const HALF: u64 = 1 << 32;
 
 // The bytes of a digest.
 pub const DIGEST: usize = 4;
@@ -29,7 +29,8 @@ fn mix_half(h: u32, half: u32) -> u32
     ((u64::from(h) * 257 + u64::from(half)) % PRIME) as u32
 }
 
-// Both halves of a number, the low one first.
+// Both halves of a number, the low one first: a remainder and a quotient, as the definition has them. A cast alone is refused
+// where a number may not fit.
 #[tactic(auto, unfolding(crate::specs::Digests::mixed))]
 fn mix(h: u32, x: u64) -> u32
     ensures { result ≡ mixed h x }
@@ -46,7 +47,8 @@ fn mix_cells(from: u32, cells: &[u64], n: usize) -> u32
     cells.iter().take(n).fold(from, |h, x| mix(h, *x))
 }
 
-// The whole state after a step: how it ended, the cell that was dumped (0 for none), and the machine.
+// The whole state after a step: how it ended, the cell that was dumped, and the machine. The cell is no Option, and is 0 where
+// none was dumped: a digest is of numbers, and the recorded ones have 0 there.
 pub fn digest(ending: u64, cell: u64, m: &Machine) -> u32
     ensures { result ≡ digest_of ending cell m.now }
 {
@@ -65,16 +67,8 @@ pub fn digest(ending: u64, cell: u64, m: &Machine) -> u32
     m.memory.iter().fold(c, |h, b| mix(h, u64::from(*b)))
 }
 
-// Digest i of those in the bytes.
-fn digest_at(bytes: &[u8], i: usize) -> u32
-    requires { i * 4 + 4 ≤ length bytes.now }
-    ensures { result ≡ get_or (records_of digests.word bytes.now) i 0 }
-{
-    let at = i * DIGEST;
-    u32::from_le_bytes([bytes[at], bytes[at + 1], bytes[at + 2], bytes[at + 3]])
-}
-
-// How many of the recorded digests are those of the steps from m on, before the first that isn't.
+// How many of the recorded digests are those of the steps from m on, before the first that isn't. Image, tables and count stand
+// beside one another as execute_program takes them, whose comment says why.
 pub fn agreeing_steps(
     image: &[u8],
     insts: &[u8],
@@ -86,16 +80,17 @@ pub fn agreeing_steps(
     ensures { result ≡ agreeing (program image.now insts.now labels.now count) m (records_of digests.word recorded.now) }
 {
     let mut machine = m;
-    for i in 0..recorded.len() / DIGEST {
+    let (whole, _) = recorded.as_chunks::<DIGEST>();
+    for (i, bytes) in whole.iter().enumerate() {
         let mut dumps = [0u8; NUMBER];
         let ran = execute_program(image, insts, labels, count, machine, 1, &mut dumps);
         let digest = digest(u64::from(ran.ending), number_at(&dumps, 0), &ran.machine);
-        if digest != digest_at(recorded, i) {
+        if digest != u32::from_le_bytes(*bytes) {
             return i;
         }
         machine = ran.machine;
     }
-    recorded.len() / DIGEST
+    whole.len()
 }
 
 // What an image's record comes to: whether its answers are the recorded ones, and how many steps are. It is no Option: where
@@ -106,28 +101,39 @@ pub struct Replayed {
     pub steps: usize,
 }
 
-// An image held to what was recorded of it: 0 and the digests of its first steps, or the number of its refusal.
+// What was recorded of an image: the number of its refusal, or the digests of its first steps. It is no Result: a refusal that
+// was recorded is no failure here.
+#[derive(Clone, Copy, Drop)]
+pub enum Recorded<'a> {
+    Refused(u8),
+    Steps(&'a [u8]),
+}
+
+// An image held to what was recorded of it.
 pub fn replay_image(
     image: &[u8],
-    number: u8,
-    recorded: &[u8],
+    recorded: Recorded<'_>,
     insts: &mut [u8],
     labels: &mut [u8],
 ) -> Replayed
-    ensures { ReplayImage image.now number recorded.now insts.old labels.old result insts.new labels.new }
+    ensures { ReplayImage image.now recorded.entry insts.old labels.old result insts.new labels.new }
 {
-    match from_binary(image, insts, labels) {
-        Err(refusal) => Replayed {
-            same: refusal.number() == number,
+    match (from_binary(image, insts, labels), recorded) {
+        (Err(refusal), Recorded::Refused(number)) => Replayed {
+            same: u8::from(refusal) == number,
             steps: 0,
         },
-        Ok(accepted) => {
+        (Ok(accepted), Recorded::Steps(digests)) => {
             let m = fresh(accepted.ip);
-            let steps = agreeing_steps(image, insts, labels, accepted.count, m, recorded);
+            let steps = agreeing_steps(image, insts, labels, accepted.count, m, digests);
             Replayed {
-                same: number == 0 && steps == recorded.len() / DIGEST,
+                same: steps == digests.len() / DIGEST,
                 steps,
             }
         }
+        _ => Replayed {
+            same: false,
+            steps: 0,
+        },
     }
 }

@@ -1,6 +1,6 @@
 -- The encoder's answer by its tests. Assumes nothing.
 use Prim.Native.Nat.{ℕ, ◌+◌, ◌-◌, ◌<◌, ◌≤◌}
-use mathlib.Core.Path.{◌≡◌, refl, sym}
+use mathlib.Core.Path.{◌≡◌, refl, sym, ap, ◌∙◌}
 use mathlib.Core.Bool.{Bool, true, false, cond, ◌&&◌, and-false}
 use mathlib.Core.List.{List}
 use native.Mathlib.Omega.{arith}
@@ -11,11 +11,15 @@ use Rattle.inst.specs.declared.Inst.{Inst}
 use Rattle.inst.proofs.Laws.{and_left, and_right}
 use Rattle.machine.specs.Encode.{all_well_formed, bytes_of_all, unencoded, encoded, in_room, size_of}
 use Rattle.encoder.specs.Encoder.{Fits}
-use Rattle.std.specs.Prelude.{Option, Some, None, SomeIff}
+use Rattle.std.specs.Prelude.{Option, Some, None, SomeIff, Result, Err, ok_or}
 
 -- a number is no size
 pub other : {A : Type 0} (m n : ℕ) → unencoded m ≡ encoded n → A
 other m n e = let z : ◌≡◌ {A = ℕ} 0 1 = cc in absurd (omega arith)
+
+-- what the exit of a `?` behind ok_or returns
+pub exit : {T A E : Type 0} {r : Result T E} {o : Option A} {e x : E} → (y : E) × (r ≡ Err y) × (y ≡ e) → o ≡ None → Err e ≡ ok_or o x → r ≡ Err x
+exit {e = e} {x = x} p n v = let k = rw n at v in let q : e ≡ x = cc in p.1 ∙ ap Err (p.2 ∙ q)
 
 -- a length where a test holds
 pub no_len : (b : Bool) (n : ℕ) → None ≡ cond b (Some n) None → b ≡ false

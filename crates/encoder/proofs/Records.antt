@@ -1,6 +1,6 @@
 -- The records that are left, their sizes and their bytes. Assumes nothing.
-use Prim.Native.Nat.{ℕ, ◌+◌, ◌<◌, ◌≤◌}
-use mathlib.Core.Path.{◌≡◌, refl, ◌∙◌}
+use Prim.Native.Nat.{ℕ, ◌+◌, ◌*◌, ◌<◌, ◌≤◌}
+use mathlib.Core.Path.{◌≡◌, refl, sym, ◌∙◌}
 use mathlib.Core.Bool.{true, false}
 use mathlib.Core.List.{List, [], ◌∷◌}
 use native.Mathlib.Nat.{add-zero}
@@ -12,11 +12,13 @@ use Rattle.inst.specs.declared.Inst.{Inst}
 use Rattle.inst.specs.Records.{well_formed}
 use Rattle.inst.proofs.Laws.{and_left, and_right, sets_more}
 use Rattle.inst_encode.specs.Encode.{as_bytes}
+use Rattle.tables.specs.Tables.{inst, insts_of, inst_of}
+use Rattle.tables.proofs.Laws.{record_at, length_records}
 use Rattle.machine.specs.Encode.{all_well_formed, bytes_of_all, unencoded, encoded, in_room, size_of}
 use Rattle.std.specs.Prelude.{Option, Some, Result}
 use Rattle.encoder.specs.declared.EncodeError.{EncodeError}
 use Rattle.encoder.specs.Encoder.{means, Fits}
-use Rattle.encoder.proofs.Answers.{ill, whole}
+use Rattle.encoder.proofs.Answers.{past, ill, whole}
 
 -- what is left of the first `count` records from record i on
 abbrev pub left : List Inst → ℕ → ℕ → List Inst
@@ -25,6 +27,16 @@ left is count i = drop i (take count is)
 -- r is record i, whatever stands for a record past the table
 abbrev pub IsAt : List Inst → ℕ → Inst → Type 0
 IsAt is i r = (d : Inst) → r ≡ get_or is i d
+
+-- the record that a program's code reads, and that the program is within its table
+pub inst_at : (xs : List ℕ) (count i : ℕ) (r : Inst) → count * 32 ≤ length xs → i < count → r ≡ inst_of xs i → IsAt (insts_of xs) i r
+inst_at xs count i r h l e d = e ∙ sym (record_at inst xs i d (omega arith))
+
+pub table_within : (xs : List ℕ) (count : ℕ) → count * 32 ≤ length xs → count ≤ length (insts_of xs)
+table_within xs count h = let l = length_records inst xs in omega arith
+
+pub table_past : (image xs : List ℕ) (count : ℕ) → length xs < count * 32 → size_of image (insts_of xs) count ≡ unencoded 9
+table_past image xs count h = let l = length_records inst xs in past image (insts_of xs) count (omega arith)
 
 module _ (is : List Inst) (count : ℕ) (within : count ≤ length is) where
   left_next : (i : ℕ) (r : Inst) → i < count → IsAt is i r → left is count i ≡ r ∷ left is count (i + 1)

@@ -1,15 +1,15 @@
 // The encoder (to_binary of mm): a table of records written out, straight into the output; and the room that it takes.
 #![tactic(auto)]
 
-ghost use Rattle.std.specs.Prelude.{◌≡◌, true, ℕ, ◌+◌, ◌≤◌, length, take};
+ghost use Rattle.std.specs.Prelude.{◌≡◌, true, ℕ, ◌+◌, ◌*◌, ◌<◌, ◌≤◌, length, take, MatchResult};
 ghost use Rattle.std.proofs.lemmas.List.Edits.{sets};
-ghost use Rattle.machine.specs.Encode.{encoded, all_well_formed, bytes_of_all, in_room, size_of, encode, encoded_size, output_after};
+ghost use Rattle.machine.specs.Encode.{all_well_formed, bytes_of_all, in_room, size_of, encode, encoded_size, output_after};
 ghost use Rattle.tables.specs.Tables.{insts_of};
+ghost use Rattle.encoder.specs.declared.EncodeError.TheVariants.{IllFormed};
 ghost use Rattle.encoder.specs.Encoder.{number_of, means, Fits};
 
-use inst::Inst;
 use inst_encode::{as_bytes, checked_len};
-use tables::{RECORD, record_at};
+use tables::Code;
 
 // Why nothing is written. Each has a number, by which a host knows it.
 #[derive(Clone, Copy, Debug, PartialEq, Eq)]
@@ -18,12 +18,19 @@ pub enum EncodeError {
     NoRoom = 10,
 }
 
-impl EncodeError {
-    pub fn number(self) -> u8
-        ensures { result ≡ number_of self }
-    {
-        self as u8
+impl From<EncodeError> for u8 {
+    ghost from_gives = { λ error number. number ≡ number_of error };
+
+    fn from(error: EncodeError) -> u8 {
+        error as u8
     }
+}
+
+// The program of a table's first `count` records, if it has so many.
+fn code_of<'a>(image: &'a [u8], insts: &'a [u8], count: usize) -> Result<Code<'a>, EncodeError>
+    ensures { MatchResult result (λ code. (code.image.now ≡ image.now) × (code.insts.now ≡ insts.now) × (code.count ≡ count)) (λ e. (e ≡ IllFormed) × (length insts.now < count * 32)) }
+{
+    Code::new(image, insts, count).ok_or(EncodeError::IllFormed)
 }
 
 // The room behind one record of `len` bytes more; None once records passed it.
@@ -34,37 +41,29 @@ fn taken(left: Option<usize>, len: usize) -> Option<usize>
 }
 
 // How many bytes are written, without a write. Every record is tested, also behind those that fill the room, since 9 comes before 10.
-fn check(image: &[u8], insts: &[u8], count: usize, room: usize) -> Result<usize, EncodeError>
-    ensures { means result ≡ in_room room (size_of image.now (insts_of insts.now) count) }
+// Here and in `write` the loop is over indices: `Code::inst` reads record i of a program, whose type says that it is there. Of a chunk
+// of the table's bytes another function would read the same four numbers, and the chunks go on behind the program.
+fn check(code: Code<'_>, room: usize) -> Result<usize, EncodeError>
+    ensures { means result ≡ in_room room (size_of code.entry.image.now (insts_of code.entry.insts.now) code.entry.count) }
 {
-    if count > insts.len() / RECORD {
-        return Err(EncodeError::IllFormed);
-    }
     let mut left = Some(room);
-    for i in 0..count {
-        let inst: Inst = record_at(insts, i);
-        let Some(len) = checked_len(image, inst) else {
-            return Err(EncodeError::IllFormed);
-        };
+    for i in 0..code.count {
+        let len = checked_len(code.image, code.inst(i)).ok_or(EncodeError::IllFormed)?;
         left = taken(left, len);
     }
-    match left {
-        Some(rest) => Ok(room - rest),
-        None => Err(EncodeError::NoRoom),
-    }
+    let rest = left.ok_or(EncodeError::NoRoom)?;
+    Ok(room - rest)
 }
 
 // The records' bytes from the output's front on.
-fn write(image: &[u8], insts: &[u8], count: usize, out: &mut [u8])
-    requires count_in_bounds { count ≤ length (insts_of insts.now) }
-    requires insts_value { all_well_formed image.now (take count (insts_of insts.now)) ≡ true }
-    requires room { length (bytes_of_all image.now (take count (insts_of insts.now))) ≤ length out.old }
-    ensures { out.new ≡ sets out.old 0 (bytes_of_all image.now (take count (insts_of insts.now))) }
+fn write(code: Code<'_>, out: &mut [u8])
+    requires insts_value { all_well_formed code.image.now (take code.count (insts_of code.insts.now)) ≡ true }
+    requires room { length (bytes_of_all code.image.now (take code.count (insts_of code.insts.now))) ≤ length out.old }
+    ensures { out.new ≡ sets out.old 0 (bytes_of_all code.entry.image.now (take code.entry.count (insts_of code.entry.insts.now))) }
 {
     let mut at = 0;
-    for i in 0..count {
-        let inst: Inst = record_at(insts, i);
-        at += as_bytes(image, inst, out, at);
+    for i in 0..code.count {
+        at += as_bytes(code.image, code.inst(i), &mut out[at..]);
     }
 }
 
@@ -78,8 +77,9 @@ pub fn to_binary(
     ensures result_value { means result ≡ encode image.now (insts_of insts.now) count out.old }
     ensures out_after { out.new ≡ output_after (encode image.now (insts_of insts.now) count out.old) image.now (insts_of insts.now) count out.old }
 {
-    let size = check(image, insts, count, out.len())?;
-    write(image, insts, count, out);
+    let code = code_of(image, insts, count)?;
+    let size = check(code, out.len())?;
+    write(code, out);
     Ok(size)
 }
 
@@ -88,5 +88,6 @@ pub fn to_binary(
 pub fn encoded_size(image: &[u8], insts: &[u8], count: usize) -> Result<usize, EncodeError>
     ensures { means result ≡ encoded_size image.now (insts_of insts.now) count }
 {
-    check(image, insts, count, usize::MAX)
+    let code = code_of(image, insts, count)?;
+    check(code, usize::MAX)
 }

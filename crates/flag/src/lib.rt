@@ -1,4 +1,4 @@
-// The eight flags (mm's flag.rs).
+// The eight flags (mm's flag.rs). A machine's are one byte, a bit each: the byte crosses to the host, and the definitions are over it.
 #![tactic(auto)]
 
 ghost use Rattle.std.specs.Prelude.{◌≡◌, ◌≤◌, ◌<◌, MatchOption};

@@ -3,7 +3,6 @@
 #![tactic(auto)]
 
 ghost use Rattle.std.specs.Prelude.{◌≡◌, ◌*◌, ◌^◌, ◌≤◌, false, from_bits, to_bits};
-ghost use Rattle.std.specs.Float.{binary64};
 ghost use Rattle.binary64.specs.Binary64.{value, finite, is_nan, sum_bits, difference_bits, product_bits, quotient_bits, to_i64, to_u64, of_whole, below_zero};
 
 use std::num::{
@@ -11,14 +10,15 @@ use std::num::{
     saturating_f64_to_i64, saturating_f64_to_u64,
 };
 
-// Whether it is a NaN's bit pattern.
+// Whether it is a NaN's bit pattern: the definition's test, of one line on the bits.
 pub fn is_nan(a: u64) -> bool
     ensures { result ≡ is_nan a }
 {
     a % 0x8000000000000000 > 0x7ff0000000000000
 }
 
-// The four operations, each rounded once, to nearest with ties to even.
+// The four operations, each rounded once, to nearest with ties to even. Each is one line: one function over the operation as a
+// closure would need a contract, and four callers as long as these.
 #[tactic(auto, using(crate::proofs::Operations::sum_of))]
 pub fn add(a: u64, b: u64) -> u64
     ensures { result ≡ sum_bits a b }
@@ -47,7 +47,8 @@ pub fn div(a: u64, b: u64) -> u64
     to_bits(from_bits(a) / from_bits(b))
 }
 
-// Toward zero, to the nearest end of the range where it is out of it, and 0 for a NaN.
+// Toward zero, to the nearest end of the range where it is out of it, and 0 for a NaN. This and to_u64 are a line each, the
+// library's cast: one function over the type would take a trait with both definitions as its law.
 #[tactic(auto, using(crate::proofs::Conversions::signed_of))]
 pub fn to_i64(a: u64) -> i64
     ensures { result ≡ to_i64 a }

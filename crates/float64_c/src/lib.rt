@@ -1,16 +1,10 @@
 // The functions of `float64` under C's calling convention, for the oracle to link. They are called by a number, so
-// that one symbol serves.
+// that one symbol serves: an enum doesn't cross over C.
 #![tactic(auto)]
 
 ghost use Rattle.std.specs.Prelude.{◌≡◌};
 ghost use Rattle.binary64.specs.Binary64.{to_i64};
-ghost use Rattle.float64_c.specs.Apply.{bit, applied};
-
-fn number(b: bool) -> u64
-    ensures { result ≡ bit b }
-{
-    u64::from(b)
-}
+ghost use Rattle.float64_c.specs.Apply.{applied};
 
 #[unsafe(no_mangle)]
 #[tactic(auto, unfolding(crate::specs::Apply::applied))]
@@ -24,8 +18,8 @@ pub extern "C" fn float64_apply(n: u64, a: u64, b: u64) -> u64
         3 => float64::div(a, b),
         4 => float64::to_u64(a),
         5 => float64::from_u64(a),
-        6 => number(float64::is_below_zero(a)),
-        _ => number(float64::is_nan(a)),
+        6 => u64::from(float64::is_below_zero(a)),
+        _ => u64::from(float64::is_nan(a)),
     }
 }
 

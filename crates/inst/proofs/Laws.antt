@@ -4,11 +4,10 @@ use mathlib.Core.Path.{◌≡◌, refl, ◌∙◌, ap, sym}
 use mathlib.Core.Bool.{Bool, true, false, cond, ◌&&◌, ◌||◌, and-false}
 use mathlib.Core.List.{List, [], ◌∷◌, ◌++◌}
 use native.Mathlib.Nat.{add-zero, add-suc, suc-add}
-use native.Mathlib.Numerals.{add-one}
 use native.Mathlib.Omega.{arith}
 use lib.Dec.{T, eqb, ltb, leb, lit<}
-use lib.ListN.{length, get_or, set, take, drop}
-use lib.Seq.{drop-cons, take-nil, sets, slice}
+use lib.ListN.{length, set, take, drop}
+use lib.Seq.{take-nil, sets, slice}
 use borrow.Author.Tests.{ne_eqb, lt-leb}
 use Rattle.inst.specs.Forms.{Form, none, eight, one, name, undefined, has_none, has_eight, has_one, has_name, form_of}
 
@@ -75,10 +74,6 @@ pub no_letter : (op n : ℕ) → n ≡ letter_of (form_of op) → (n ≡ 45 → 
 no_letter op n e p q r s =
     let k : of_letter n ≡ undefined = simp (ne_eqb n 45 p, ne_eqb n 56 q, ne_eqb n 49 r, ne_eqb n 110 s) in
     sym (letter_back (form_of op) ∙ ap of_letter (sym e) ∙ k)
-
--- one element more
-pub drop_next : (s : List ℕ) (i : ℕ) → i < length s → drop i s ≡ get_or s i 0 ∷ drop (i + 1) s
-drop_next s i h = rw add-one (drop-cons s i 0 h)
 
 -- `&l[from..to]` lends the slice
 pub slice_of : {A : Type 0} (from to : ℕ) (l : List A) → take (to - from) (drop from l) ≡ slice from to l

@@ -6,11 +6,9 @@ use mathlib.Core.List.{List, [], ◌∷◌}
 use native.Mathlib.Omega.{arith}
 use lib.ListN.{get_or}
 use borrow.Author.Tests.{lt-ltb, le-ltb}
-use Rattle.std.specs.Prelude.{MatchBool, IsAscii}
+use Rattle.std.specs.Prelude.{MatchBool, IsAscii, nat_eq}
 use Rattle.std.specs.Str.{IsNotAscii}
 use lib.Pointwise.{pointwise}
-use lib.Dec.{eqb}
-use Rattle.std.specs.Prelude.{nat_eq}
 use Rattle.inst.specs.Records.{name_ok, same}
 
 below : (s : List ℕ) → ((i : ℕ) → get_or s i 0 < 128) → name_ok s ≡ true

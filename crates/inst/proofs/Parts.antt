@@ -7,6 +7,10 @@ use native.Mathlib.Omega.{arith}
 use lib.ListN.{length, take, drop, length-drop, take-append-drop, drop_of_length-le}
 use lib.Seq.{sets, sets-eq, length-take-le, drop-append-le, drop-drop}
 
+-- how long the rest of a slice is, as it is lent
+pub rest_long : {A : Type 0} (b : List A) (i : ℕ) → length (take (length b - i) (drop i b)) ≡ length b - i
+rest_long b i = length-take-le (length b - i) (drop i b) (omega (arith, length-drop i b))
+
 -- the part from i up to e of b was lent, and came back as ys: with vs stored at its front
 pub lent_part : {A : Type 0} (b ys vs : List A) (i e : ℕ) → i + length vs ≤ e → e ≤ length b → ys ≡ sets (take (e - i) (drop i b)) 0 vs
     → take i b ++ (ys ++ drop (e - i) (drop i b)) ≡ sets b i vs

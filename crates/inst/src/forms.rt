@@ -1,5 +1,5 @@
 // The operand's form of each first byte: a constant table of 256 entries, 16 to a line.
-ghost use Rattle.std.specs.Prelude.{◌≡◌, ◌<◌, slice_index_or};
+ghost use Rattle.std.specs.Prelude.{◌≡◌};
 ghost use Rattle.inst.specs.Forms.{means, form_of};
 
 // What stands behind a first byte that is defined. `Bare` is the definition's `none`: beside Option's None that name would mislead.
@@ -32,14 +32,6 @@ nnnnnn-----1n-n-\
 ????????????????\
 ????????????????";
 
-// The letter of a first byte.
-fn letter(op: u64) -> u8
-    requires { op < 256 }
-    ensures { result ≡ slice_index_or LETTERS op 0 }
-{
-    LETTERS[op as usize]
-}
-
 impl Form {
     // The form of a first byte; None for an undefined one, and for a number that is no byte. A letter is one load and some
     // comparisons: a match over the first bytes themselves becomes a jump through a table, and a load of mixed code takes twice as long.
@@ -47,10 +39,7 @@ impl Form {
     pub fn of(op: u64) -> Option<Form>
         ensures { means result ≡ form_of op }
     {
-        if op >= 256 {
-            return None;
-        }
-        match letter(op) {
+        match *LETTERS.get(op as usize)? {
             b'-' => Some(Form::Bare),
             b'8' => Some(Form::Eight),
             b'1' => Some(Form::One),

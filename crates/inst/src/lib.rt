@@ -6,7 +6,7 @@ pub mod ops;
 mod records;
 
 pub use forms::Form;
-pub use records::{has_form, is_well_formed, name_in, name_ok, same_name};
+pub use records::{is_well_formed, name, name_in, name_ok, part, same_name};
 
 // An instruction record: the first byte, the cell, number or stream, and where in the image the name stands.
 // What an instruction does not use is 0.

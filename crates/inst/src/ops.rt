@@ -1,4 +1,6 @@
-// The first bytes of the instructions, by mm's names (InstType of mm's inst.rs).
+// The first bytes of the instructions, by mm's names (InstType of mm's inst.rs). They are constants and no enum, since a record's
+// typ is any lent number, in the definitions too: an enum would need a conversion before each comparison, and a branch for the
+// numbers that are none of it.
 pub const NOP: u64 = 0;
 
 pub const PUSH: u64 = 1;

@@ -1,53 +1,75 @@
 // Names as parts of the image, and the well-formed record.
-ghost use Rattle.std.specs.Prelude.{◌≡◌};
-ghost use Rattle.inst.specs.Forms.{means};
-ghost use Rattle.inst.specs.Records.{name_ok, name_in, same, fits, well_formed};
+ghost use Rattle.std.specs.Prelude.{◌≡◌, ◌+◌, ◌≤◌, ◌<◌, length, MatchOption, true, false};
+ghost use Rattle.inst.specs.Forms.{form_at};
+ghost use Rattle.inst.specs.Records.{plain, name_ok, name_in, part, same, fits, well_formed};
 
 use crate::Inst;
 use crate::forms::Form;
 
-// The check of a name: every byte is below 128.
+impl Inst {
+    // A record of which only the first byte and the operand are used.
+    pub fn plain(typ: u64, val: u64) -> Inst
+        ensures { result ≡ plain typ val }
+    {
+        Inst {
+            typ,
+            val,
+            start: 0,
+            len: 0,
+        }
+    }
+}
+
+// The check of a name: every byte is below 128. Named as its definition, which callers' contracts cite.
 pub fn name_ok(bytes: &[u8]) -> bool
     ensures { result ≡ name_ok bytes.now }
 {
     bytes.is_ascii()
 }
 
-// Whether two names are the same bytes.
+// Whether two names are the same bytes. `==` under the definition's name: what goes by names cites `same`.
 pub fn same_name(a: &[u8], b: &[u8]) -> bool
     ensures { result ≡ same a.now b.now }
 {
     a == b
 }
 
-// Whether a name lies in the image and passes its check. Its end is computed only once it is known to fit, so it can't wrap.
+// The part of the image that starts there and is so long; None where it passes the end. Its end is never computed, so it can't
+// wrap. A u64 becomes a usize by `as`, which is proved to lose nothing: there is no From between the two.
+pub fn part(image: &[u8], start: u64, len: u64) -> Option<&[u8]>
+    ensures { MatchOption result (length image.now < start + len) (λ p. (start + len ≤ length image.now) × (p.now ≡ part image.now start len)) }
+{
+    image.get(start as usize..)?.get(..len as usize)
+}
+
+// A name: the part of the image, if it passes its check.
+pub fn name(image: &[u8], start: u64, len: u64) -> Option<&[u8]>
+    ensures { MatchOption result (name_in image.now start len ≡ false) (λ n. (name_in image.now start len ≡ true) × (n.now ≡ part image.now start len)) }
+{
+    part(image, start, len).filter(|name| name_ok(name))
+}
+
+// Whether a name lies in the image and passes its check.
 pub fn name_in(image: &[u8], start: u64, len: u64) -> bool
     ensures { result ≡ name_in image.now start len }
 {
-    let size = image.len() as u64;
-    if size < start {
-        return false;
-    }
-    if size - start < len {
-        return false;
-    }
-    let from = start as usize;
-    let to = from + len as usize;
-    name_ok(&image[from..to])
+    name(image, start, len).is_some()
 }
 
-// Whether a record's fields are as the form asks; those of an undefined first byte never are.
-#[tactic(auto, unfolding(crate::specs::Records::fits, crate::specs::Forms::form_at, crate::specs::Forms::means))]
-pub fn has_form(image: &[u8], inst: Inst, form: Option<Form>) -> bool
-    ensures { result ≡ fits image.now inst (means form) }
-{
-    let no_name = inst.start == 0 && inst.len == 0;
-    match form {
-        Some(Form::Bare) => inst.val == 0 && no_name,
-        Some(Form::Eight) => no_name,
-        Some(Form::One) => inst.val <= 255 && no_name,
-        Some(Form::Name) => inst.val == 0 && name_in(image, inst.start, inst.len),
-        None => false,
+impl Form {
+    // Whether a record's fields are as the form asks. In line: else the encoder's loops call it for each record.
+    #[inline(always)]
+    #[tactic(auto, unfolding(crate::specs::Records::fits, crate::specs::Forms::form_at))]
+    pub fn fits(self, image: &[u8], inst: Inst) -> bool
+        ensures { result ≡ fits image.now inst (form_at self) }
+    {
+        let no_name = inst.start == 0 && inst.len == 0;
+        match self {
+            Form::Bare => inst.val == 0 && no_name,
+            Form::Eight => no_name,
+            Form::One => inst.val <= 255 && no_name,
+            Form::Name => inst.val == 0 && name_in(image, inst.start, inst.len),
+        }
     }
 }
 
@@ -56,5 +78,5 @@ pub fn has_form(image: &[u8], inst: Inst, form: Option<Form>) -> bool
 pub fn is_well_formed(image: &[u8], inst: Inst) -> bool
     ensures { result ≡ well_formed image.now inst }
 {
-    has_form(image, inst, Form::of(inst.typ))
+    Form::of(inst.typ).is_some_and(|form| form.fits(image, inst))
 }

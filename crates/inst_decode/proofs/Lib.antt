@@ -1,2 +1,3 @@
+mod Laws
 pub mod Facts
 mod Examples

@@ -1,5 +1,6 @@
 -- Decoding one instruction (Inst::from_bytes), as document 01 has it.
 use Rattle.std.specs.Prelude.{ℕ, ◌+◌, ◌%◌, ◌^◌, Bool, cond, ◌&&◌, not, List, eqb, ltb, leb, length, get_or, Result, Ok, Err}
+use Rattle.std.specs.Borrow.{Bor}
 use Rattle.word.specs.Words.{word}
 use Rattle.inst.specs.declared.Inst.{Inst}
 use Rattle.inst_decode.specs.declared.Decoded.{Decoded}
@@ -23,6 +24,11 @@ number_of BadName = 4
 abbrev pub means : Result Decoded DecodeError → Answer
 means (Err e) = refused (number_of e)
 means (Ok d) = reads d.inst d.size
+
+-- the code's answer for a name that begins at `start`
+abbrev pub means_name : ℕ → ℕ → Result (Bor (List ℕ)) DecodeError → Answer
+means_name op start (Err e) = refused (number_of e)
+means_name op start (Ok bytes) = reads (named op start (length bytes.now)) (9 + length bytes.now)
 
 -- byte 27 decodes as FDMP, 46
 unfoldable pub type_of : ℕ → ℕ

@@ -1,14 +1,14 @@
 // Decoding one instruction (Inst::from_bytes of mm's inst.rs).
 #![tactic(auto)]
 
-ghost use Rattle.std.specs.Prelude.{◌≡◌, ◌+◌, ◌≤◌, ◌<◌, length, MatchResult};
-ghost use Rattle.inst.specs.Forms.{eight, one, name};
+ghost use Rattle.std.specs.Prelude.{◌≡◌, ◌+◌, ◌≤◌, ◌<◌, length, drop, List, ℕ, IfOk, MatchResult};
+ghost use Rattle.word.specs.Words.{word};
+ghost use Rattle.inst.specs.Forms.{name};
 ghost use Rattle.inst.specs.Records.{plain};
 ghost use Rattle.inst_decode.specs.declared.DecodeError.TheVariants.{PastEnd};
-ghost use Rattle.inst_decode.specs.Decode.{means, type_of, is_negative, read_name, read_operand, from_bytes};
+ghost use Rattle.inst_decode.specs.Decode.{means, means_name, type_of, is_negative, read_operand, from_bytes};
 
 use inst::{Form, Inst, name_ok, ops};
-use word::word_at;
 
 // Why there is no instruction: no byte, or one that begins none; an operand or a name past the end, or a negative length; a name
 // with a byte of 128 or more.
@@ -30,34 +30,10 @@ pub struct Decoded {
 fn unnamed(typ: u64, val: u64, size: usize) -> Decoded
     ensures { result ≡ record { inst = plain typ val; size = size } }
 {
-    let inst = Inst {
-        typ,
-        val,
-        start: 0,
-        len: 0,
-    };
-    Decoded { inst, size }
-}
-
-// The image reaches as far as an instruction of this size at `at`.
-fn reaches(image: &[u8], at: usize, size: usize) -> Result<(), DecodeError>
-    requires { at < length image.now }
-    ensures { MatchResult result (λ _. at + size ≤ length image.now) (λ e. (e ≡ PastEnd) × (length image.now < at + size)) }
-{
-    if image.len() - at < size {
-        return Err(DecodeError::PastEnd);
+    Decoded {
+        inst: Inst::plain(typ, val),
+        size,
     }
-    Ok(())
-}
-
-// An operand of eight bytes behind the first byte at `at`.
-#[tactic(auto, unfolding(crate::specs::Decode::read_operand))]
-fn read_eight(image: &[u8], at: usize, op: u64) -> Result<Decoded, DecodeError>
-    requires { at < length image.now }
-    ensures { means result ≡ read_operand image.now at op eight }
-{
-    reaches(image, at, 9)?;
-    Ok(unnamed(op, word_at(image, at + 1), 9))
 }
 
 // IDMP is read as FDMP.
@@ -68,14 +44,12 @@ fn type_of(op: u64) -> u64
     if op == ops::IDMP { ops::FDMP } else { op }
 }
 
-// An operand of one byte.
-#[tactic(auto, unfolding(crate::specs::Decode::read_operand))]
-fn read_one(image: &[u8], at: usize, op: u64) -> Result<Decoded, DecodeError>
-    requires { at < length image.now }
-    ensures { means result ≡ read_operand image.now at op one }
+// The number of an operand's first eight bytes, and what stands behind them.
+fn read_eight(operand: &[u8]) -> Result<(u64, &[u8]), DecodeError>
+    ensures { MatchResult result (λ r. (8 ≤ length operand.now) × (r.0 ≡ word operand.now 0) × (r.1.now ≡ drop 8 operand.now)) (λ e. (e ≡ PastEnd) × (length operand.now < 8)) }
 {
-    reaches(image, at, 2)?;
-    Ok(unnamed(type_of(op), image[at + 1] as u64, 2))
+    let (eight, behind) = operand.split_first_chunk().ok_or(DecodeError::PastEnd)?;
+    Ok((u64::from_le_bytes(*eight), behind))
 }
 
 // Bit 63 of a length field is set and the magnitude isn't 0.
@@ -83,70 +57,58 @@ fn read_one(image: &[u8], at: usize, op: u64) -> Result<Decoded, DecodeError>
 fn is_negative(field: u64) -> bool
     ensures { result ≡ is_negative field }
 {
-    if field < 0x8000000000000000 {
-        return false;
-    }
-    field % 0x1000000000000 != 0
+    field >= 0x8000000000000000 && field % 0x1000000000000 != 0
 }
 
-// The name behind a length field.
-#[tactic(auto, unfolding(crate::specs::Decode::read_name))]
+// The name of an operand, behind its length field. The answer is that of whatever image the operand stands in: a name isn't told
+// its place.
 #[inline(always)]
-fn read_name(image: &[u8], at: usize, op: u64, field: u64) -> Result<Decoded, DecodeError>
-    requires { at + 9 ≤ length image.now }
-    ensures { means result ≡ read_name image.now at op field }
+fn read_name(operand: &[u8]) -> Result<&[u8], DecodeError>
+    ensures value { (image : List ℕ) (at op : ℕ) → at < length image → operand.now ≡ drop (at + 1) image → means_name op (at + 9) result ≡ read_operand image at op name }
+    ensures inside { IfOk result (λ n. 8 + length n.now ≤ length operand.now) }
 {
+    let (field, behind) = read_eight(operand)?;
     if is_negative(field) {
         return Err(DecodeError::PastEnd);
     }
-    let start = at + 9;
     let magnitude = field % 0x1000000000000;
-    let len = magnitude as usize;
-    if image.len() - start < len {
-        return Err(DecodeError::PastEnd);
-    }
-    let end = start + len;
-    if !name_ok(&image[start..end]) {
+    let name = behind
+        .get(..magnitude as usize)
+        .ok_or(DecodeError::PastEnd)?;
+    if !name_ok(name) {
         return Err(DecodeError::BadName);
     }
-    let inst = Inst {
-        typ: op,
-        val: 0,
-        start: start as u64,
-        len: magnitude,
-    };
-    Ok(Decoded {
-        inst,
-        size: 9 + len,
-    })
+    Ok(name)
 }
 
-// An operand that is a name.
-#[tactic(auto, unfolding(crate::specs::Decode::read_operand))]
-#[inline(always)]
-fn read_named(image: &[u8], at: usize, op: u64) -> Result<Decoded, DecodeError>
-    requires { at < length image.now }
-    ensures { means result ≡ read_operand image.now at op name }
-{
-    reaches(image, at, 9)?;
-    read_name(image, at, op, word_at(image, at + 1))
-}
-
-// The instruction at an offset of the image. In line: where a load calls it, each answer would go through memory.
+// The instruction at an offset of the image. Each size stands beside the bytes that were read for it. In line: where a load calls
+// it, each answer would go through memory.
 #[tactic(auto, unfolding(crate::specs::Decode::from_bytes, crate::specs::Decode::read_operand, inst::specs::Forms::means, inst::specs::Forms::form_at))]
 #[inline(always)]
 pub fn from_bytes(image: &[u8], at: usize) -> Result<Decoded, DecodeError>
     ensures { means result ≡ from_bytes image.now at }
 {
-    if image.len() <= at {
-        return Err(DecodeError::Undefined);
-    }
-    let op = image[at] as u64;
-    match Form::of(op) {
-        Some(Form::Bare) => Ok(unnamed(op, 0, 1)),
-        Some(Form::Eight) => read_eight(image, at, op),
-        Some(Form::One) => read_one(image, at, op),
-        Some(Form::Name) => read_named(image, at, op),
-        None => Err(DecodeError::Undefined),
+    let op = u64::from(*image.get(at).ok_or(DecodeError::Undefined)?);
+    let operand = &image[at + 1..];
+    match Form::of(op).ok_or(DecodeError::Undefined)? {
+        Form::Bare => Ok(unnamed(op, 0, 1)),
+        Form::Eight => Ok(unnamed(op, read_eight(operand)?.0, 9)),
+        Form::One => {
+            let byte = operand.first().ok_or(DecodeError::PastEnd)?;
+            Ok(unnamed(type_of(op), u64::from(*byte), 2))
+        }
+        Form::Name => {
+            let len = read_name(operand)?.len();
+            let inst = Inst {
+                typ: op,
+                val: 0,
+                start: (at + 9) as u64,
+                len: len as u64,
+            };
+            Ok(Decoded {
+                inst,
+                size: 9 + len,
+            })
+        }
     }
 }

@@ -1,31 +1,31 @@
 -- Bytes of numbers and records, stored one after another. Assumes nothing.
-use Prim.Native.Nat.{ℕ, suc, ◌<◌, ◌≤◌, ◌+◌, ◌-◌, ◌/◌, ◌%◌}
+use Prim.Native.Nat.{ℕ, ◌<◌, ◌≤◌, ◌+◌, ◌-◌, ◌/◌, ◌%◌, ◌^◌}
 use mathlib.Core.Path.{◌≡◌, ◌∙◌, sym, ap}
-use mathlib.Core.List.{List, [], ◌∷◌, ◌++◌}
+use mathlib.Core.List.{List, ◌∷◌, ◌++◌}
 use native.Mathlib.Numerals.{add-one}
 use native.Mathlib.Omega.{arith}
 use lib.ListN.{length, set, take, drop}
 use lib.Seq.{sets}
 use Rattle.inst.specs.declared.Inst.{Inst}
-use Rattle.inst.specs.Forms.{Form, none, eight, one, name, undefined, form_of, form_at, means}
+use Rattle.inst.specs.Forms.{Form, form_of, form_at, means}
 use Rattle.inst.specs.declared.forms.Form.{Form as Kind}
-use Rattle.std.specs.Prelude.{Some}
+use Rattle.std.specs.Prelude.{Option, Some}
 use Rattle.inst.proofs.Laws.{sets_more}
 use Rattle.inst.proofs.Parts.{lent_whole}
+use Rattle.word.specs.Words.{eight_of}
 use Rattle.inst_encode.specs.Encode.{bytes_of, operand_bytes, as_bytes}
 
--- what is left of a number's bytes
-pub bytes_next : (size i n : ℕ) → i < size → bytes_of (size - i) n ≡ n % 256 ∷ bytes_of (size - (i + 1)) (n / 256)
-unfolding bytes_of
-bytes_next size i n h = let e : size - i ≡ suc (size - (i + 1)) = omega arith in rw e
-
-pub bytes_end : (size i n : ℕ) → size ≤ i → bytes_of (size - i) n ≡ []
-unfolding bytes_of
-bytes_end size i n h = let e : size - i ≡ 0 = omega arith in rw e
-
--- one store of a run of stores
-pub stored : (l rest whole vs : List ℕ) (at i x : ℕ) → vs ≡ x ∷ rest → sets l (at + i) vs ≡ whole → sets (set l (at + i) x) (at + (i + 1)) rest ≡ whole
-stored l rest whole vs at i x e h = let n : at + (i + 1) ≡ suc (at + i) = omega arith in rw n (rw e at h)
+-- the eight bytes of a number of 64 bits
+pub eight_is : (v : ℕ) → v < 2 ^ 64 → eight_of v ≡ bytes_of 8 v
+unfolding eight_of bytes_of
+eight_is v h =
+    let e1 : v / 0x100 / 256 ≡ v / 0x10000 = omega arith in
+    let e2 : v / 0x10000 / 256 ≡ v / 0x1000000 = omega arith in
+    let e3 : v / 0x1000000 / 256 ≡ v / 0x100000000 = omega arith in
+    let e4 : v / 0x100000000 / 256 ≡ v / 0x10000000000 = omega arith in
+    let e5 : v / 0x10000000000 / 256 ≡ v / 0x1000000000000 = omega arith in
+    let e6 : v / 0x1000000000000 / 256 % 256 ≡ v / 0x100000000000000 = omega arith in
+    simp (e1, e2, e3, e4, e5, e6)
 
 -- stores behind stores
 stored_both : (l l₁ l₂ vs ws : List ℕ) (at n : ℕ) → length vs ≡ n → l₁ ≡ sets l at vs → l₂ ≡ sets l₁ (at + n) ws → l₂ ≡ sets l at (vs ++ ws)
@@ -40,20 +40,12 @@ stored_copied l b xs vs at n e h p k m q = stored_both l b _ vs xs at n h p (len
 pub stored_first : (out out' bytes ops : List ℕ) (at op : ℕ) → bytes ≡ op ∷ ops → out' ≡ sets (set out at op) (at + 1) ops → out' ≡ sets out at bytes
 stored_first out out' bytes ops at op e p = p ∙ rw (add-one, e)
 
--- how many bytes a record of a form has, with a name of this length
-unfoldable pub size_by : Form → ℕ → ℕ
-size_by none len = 1
-size_by eight len = 9
-size_by one len = 2
-size_by name len = 9 + len
-size_by undefined len = 1
-
 -- a record's bytes by its form, and what has no operand
 pub bytes_are : (image : List ℕ) (i : Inst) (f : Form) → form_of i.typ ≡ f → as_bytes image i ≡ i.typ ∷ operand_bytes image i f
 unfolding as_bytes
 bytes_are image i f e = rw e
 
 -- the form that the code found
-pub is_form : (op : ℕ) (f k : Kind) → means (Some f) ≡ form_of op → f ≡ k → form_of op ≡ form_at k
+pub is_form : (op : ℕ) (r : Option Kind) (f : Kind) → means r ≡ form_of op → r ≡ Some f → form_of op ≡ form_at f
 unfolding means
-is_form op f k e h = sym e ∙ ap form_at h
+is_form op r f e h = sym e ∙ ap means h

@@ -1,5 +1,5 @@
 -- Encoding one record (as_bytes), as document 01 has it.
-use Rattle.std.specs.Prelude.{ℕ, zero, suc, ◌/◌, ◌%◌, List, [], ◌∷◌, ◌++◌}
+use Rattle.std.specs.Prelude.{ℕ, zero, suc, ◌+◌, ◌/◌, ◌%◌, List, [], ◌∷◌, ◌++◌}
 use Rattle.inst.specs.declared.Inst.{Inst}
 use Rattle.inst.specs.Forms.{Form, none, eight, one, name, undefined, form_of}
 use Rattle.inst.specs.Records.{part}
@@ -20,3 +20,11 @@ operand_bytes image i undefined = []
 -- a well-formed record's bytes: the first byte (IDMP is 27, FDMP 46), then the operand
 unfoldable pub as_bytes : List ℕ → Inst → List ℕ
 as_bytes image i = i.typ ∷ operand_bytes image i (form_of i.typ)
+
+-- how many bytes a record of a form has, with a name of this length
+unfoldable pub size_by : Form → ℕ → ℕ
+size_by none len = 1
+size_by eight len = 9
+size_by one len = 2
+size_by name len = 9 + len
+size_by undefined len = 1

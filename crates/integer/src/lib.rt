@@ -1,7 +1,8 @@
-// The integer operations of cells (INC, DEC, IADD, ISUB, IMUL, IDIV of mm's mm.rs).
+// The integer operations of cells (INC, DEC, IADD, ISUB, IMUL, IDIV of mm's mm.rs). Each is a line over nan's readers and makers
+// of cells, so one function over the operation as a closure would only add a contract.
 #![tactic(auto)]
 
-ghost use Rattle.std.specs.Prelude.{◌≡◌, ◌*◌, ◌%◌, ◌^◌, ◌<◌};
+ghost use Rattle.std.specs.Prelude.{◌≡◌, ◌%◌, ◌^◌, ◌<◌};
 ghost use Rattle.integer.specs.Integers as integers;
 
 use nan::{as_u64, from_i64, get_value, signed};

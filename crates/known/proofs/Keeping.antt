@@ -9,6 +9,7 @@ use lib.ListN.{length, get_or, set, length-set}
 use lib.Seq.{get_or-set_same, get_or-set_other}
 use borrow.Author.Tests.{eqb-true, eqb-false, ltb-true, le-ltb}
 use Rattle.step_core.specs.Parts.{LookedUp}
+use Rattle.inst.proofs.Facts.{typ_byte}
 use Rattle.inst.proofs.Laws.{and_left, and_right}
 use Rattle.inst.specs.Records.{well_formed}
 use Rattle.std.specs.Prelude.{Ok, Err, IfOk}
@@ -40,10 +41,6 @@ module _ {k : Known} {at op : ℕ} where
   pub is_target : {found : LookedUp} {t : ℕ} {k' : Known} → found ≡ Ok t → KeepsTarget k at op (Ok t) k' → KeepsJump k at op found k'
   is_target e q = rw e (record { is = q })
 
-  pub no_target : (found : LookedUp) → ((t : ℕ) → found ≡ Ok t → ⊥) → KeepsJump k at op found k
-  no_target (Err e) h = record { is = refl }
-  no_target (Ok t) h = absurd (h t refl)
-
   pub no_slot : (found : LookedUp) → known_limit ≤ at → KeepsJump k at op found k
   no_slot (Err e) h = record { is = refl }
   no_slot (Ok t) h = record { is = simp (le-ltb _ _ h) }
@@ -55,9 +52,8 @@ module _ {k : Known} {at op : ℕ} where
 
 -- what is plain
 module _ (image xs : List ℕ) (i : ℕ) where
-  pub plain_is : (b : Bool) → looks_up (number_at xs (i * 4)) ≡ b → is_plain_at image xs i ≡ (not b && well_formed image (inst_of xs i))
-  unfolding is_plain_at
-  plain_is b e = rw e refl
+  pub formed_byte : well_formed image (inst_of xs i) ≡ true → number_at xs (i * 4) ≤ 255
+  formed_byte w = typ_byte image (inst_of xs i) w
 
   module _ (h : is_plain_at image xs i ≡ true) where
     pub plain_formed : well_formed image (inst_of xs i) ≡ true

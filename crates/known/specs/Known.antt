@@ -1,5 +1,5 @@
 -- What a run has found out about its instructions.
-use Rattle.std.specs.Prelude.{ℕ, ◌+◌, ◌*◌, ◌<◌, ◌≤◌, ◌≡◌, Bool, true, ◌&&◌, ◌||◌, List, eqb, leb, length, get_or}
+use Rattle.std.specs.Prelude.{ℕ, ◌*◌, ◌<◌, ◌≤◌, ◌≡◌, Bool, true, ◌&&◌, ◌||◌, List, eqb, leb, length, get_or}
 use Rattle.inst.specs.Records.{well_formed}
 use Rattle.machine.specs.Lookup.{Program, leads_to, lookup}
 use Rattle.tables.specs.Tables.{number_at, insts_of, inst_of}
@@ -35,9 +35,9 @@ Entries P k = (i : ℕ) → i < known_limit → (get_or k.keys i 0 ≡ unknown �
 abbrev pub AllKnown : Program → List ℕ → Known → Type 0
 AllKnown p xs k = Entries (KnownAt p xs) k
 
--- their records are in the table
-abbrev pub Listed : List ℕ → Known → Type 0
-Listed xs k = Entries (λ (key t i : ℕ). i * 32 + 31 < length xs) k
+-- they are below the count
+abbrev pub Listed : ℕ → Known → Type 0
+Listed count k = Entries (λ (key t i : ℕ). i < count) k
 
 -- both arrays have their length, by their type
 pub record Sized (k : Known) : Type 0 where

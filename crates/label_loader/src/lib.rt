@@ -8,7 +8,8 @@ use loader::{Accepted, Refusal, load};
 use machine::Label;
 
 // What a load answers: 0, with the fresh machine's pointer and the count of instructions; or the number of a refusal, with zeros.
-// The fresh machine itself is the caller's to make: all zero but the pointer.
+// The fresh machine itself is the caller's to make: all zero but the pointer. A C struct with a number, since an enum doesn't
+// cross to C.
 #[repr(C)]
 #[derive(Clone, Copy)]
 pub struct LoadAnswer {
@@ -28,7 +29,7 @@ impl From<Result<Accepted, Refusal>> for LoadAnswer {
                 count: a.count as u64,
             },
             Err(refusal) => LoadAnswer {
-                number: refusal.number() as u64,
+                number: u64::from(u8::from(refusal)),
                 ip: 0,
                 count: 0,
             },

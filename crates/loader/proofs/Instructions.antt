@@ -5,6 +5,7 @@ use mathlib.Core.List.{List, [], ◌∷◌, ◌++◌}
 use native.Mathlib.Omega.{arith}
 use lib.ListN.{length}
 use Rattle.std.specs.Prelude.{Ok, Err}
+use Rattle.std.specs.Bool.{then_some}
 use borrow.Author.Tests.{eq-eqb, ne_eqb, le-leb, lt-leb}
 use Rattle.inst.specs.declared.Inst.{Inst}
 use Rattle.inst.specs.Records.{part, same}
@@ -53,15 +54,15 @@ module _ (image : List ℕ) (c : Counts) (s : Scan) (e : c ≡ counts_of image s
         simp (read_is, lt-leb inst_limit (length s.insts) (rw insts_is at h), ne_eqb _ _ k, counts_plain, e)
 
     label_kept : 0 < length s.labels
-        → labelled (counted c i.typ size) (same start_name (part image i.start i.len)) c.insts
+        → labelled (counted c i.typ size) (then_some (same start_name (part image i.start i.len)) c.insts)
         ≡ counts_of image (record { at = s.at + size; insts = s.insts ++ (i ∷ []); labels = linked i (length s.insts) s.labels })
     unfolding counts_of
     label_kept z =
-        ap (λ (x : Counts). labelled (counted x i.typ size) (same start_name (part image i.start i.len)) x.insts) e
+        ap (λ (x : Counts). labelled (counted x i.typ size) (then_some (same start_name (part image i.start i.len)) x.insts)) e
         ∙ sym (counts_label image s.at s.insts s.labels i size z)
 
     pub next_label : 0 < length s.labels → c.insts < inst_limit → i.typ ≡ 21 → c.labels < label_records
-        → Ok (labelled (counted c i.typ size) (same start_name (part image i.start i.len)) c.insts) ≡ next_of image (scan_one s (from_bytes image s.at))
+        → Ok (labelled (counted c i.typ size) (then_some (same start_name (part image i.start i.len)) c.insts)) ≡ next_of image (scan_one s (from_bytes image s.at))
     unfolding next_of scan_one
     next_label z h k l =
         simp (read_is, lt-leb inst_limit (length s.insts) (rw insts_is at h), eq-eqb _ _ k, lt-leb label_records (length s.labels) (rw labels_is at l))

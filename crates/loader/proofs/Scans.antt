@@ -6,7 +6,8 @@ use mathlib.Core.List.{List, [], ◌∷◌, ◌++◌}
 use native.Mathlib.Nat.{suc-add}
 use native.Mathlib.Omega.{arith}
 use lib.ListN.{length, length-append}
-use Rattle.std.specs.Prelude.{Some}
+use Rattle.std.specs.Option.{option_or}
+use Rattle.std.specs.Bool.{then_some}
 use Rattle.inst.specs.declared.Inst.{Inst}
 use Rattle.inst.specs.Records.{part, same}
 use Rattle.machine.specs.declared.Label.{Label}
@@ -56,7 +57,7 @@ module _ (image : List ℕ) where
   snoc_entry [] e l = refl
   snoc_entry (k ∷ ls) e l = snoc_entry ls _ l
 
-  target_more : (b : Bool) (n : ℕ) (e : Entry) → target_of (cond b (entry n) e) ≡ cond b (Some n) (target_of e)
+  target_more : (b : Bool) (n : ℕ) (e : Entry) → target_of (cond b (entry n) e) ≡ option_or (then_some b n) (target_of e)
   unfolding target_of
   target_more true n e = refl
   target_more false n e = refl
@@ -70,7 +71,7 @@ module _ (image : List ℕ) where
   -- a label
   pub counts_label : (at : ℕ) (is : List Inst) (ls : List Label) (i : Inst) (size : ℕ) → 0 < length ls
       → counts_of image (record { at = at + size; insts = is ++ (i ∷ []); labels = linked i (length is) ls })
-      ≡ labelled (counted (counts_of image (record { at = at; insts = is; labels = ls })) i.typ size) (same start_name (part image i.start i.len)) (length is)
+      ≡ labelled (counted (counts_of image (record { at = at; insts = is; labels = ls })) i.typ size) (then_some (same start_name (part image i.start i.len)) (length is))
   unfolding counts_of linked
   counts_label at is [] i size h = absurd (omega arith)
   counts_label at is (k ∷ ls) i size h =

@@ -1,5 +1,6 @@
 -- What the code keeps of document 01's scan, and its answer for one instruction more.
-use Rattle.std.specs.Prelude.{ℕ, ◌+◌, ◌≤◌, ◌<◌, ◌≡◌, Bool, cond, ◌||◌, Option, Some, None, Result, Ok, Err, List, eqb, length, drop}
+use Rattle.std.specs.Prelude.{ℕ, ◌+◌, ◌≤◌, ◌<◌, ◌≡◌, ◌||◌, Option, Some, None, Result, Ok, Err, List, eqb, length, drop}
+use Rattle.std.specs.Option.{option_or}
 use Rattle.machine.specs.Limits.{inst_limit}
 use Rattle.machine.specs.Load.{start_name, Scan, Scanned, stops, goes, Entry, no_entry, entry, last_of, any_native, last_is_halt}
 use Rattle.loader.specs.declared.reading.Counts.{Counts}
@@ -24,7 +25,7 @@ counts_of image s =
       halt = last_is_halt s.insts;
     }
 
--- what is kept behind an instruction of this first byte and size, and behind a label; `start` says whether it is `_start`
+-- what is kept behind an instruction of this first byte and size, and behind a label; `start` is its target where it is `_start`
 abbrev pub counted : Counts → ℕ → ℕ → Counts
 counted c typ size =
     record {
@@ -36,13 +37,13 @@ counted c typ size =
       halt = eqb typ 69;
     }
 
-abbrev pub labelled : Counts → Bool → ℕ → Counts
-labelled c start index =
+abbrev pub labelled : Counts → Option ℕ → Counts
+labelled c start =
     record {
       at = c.at;
       insts = c.insts;
       labels = c.labels + 1;
-      start = cond start (Some index) c.start;
+      start = option_or start c.start;
       native = c.native;
       halt = c.halt;
     }

@@ -1,4 +1,5 @@
--- A label table keeps its size, whatever records are stored. Assumes nothing.
+-- A label table keeps its size, whatever records are stored. These are lemmas, and stand here and not in proofs/, since the laws of
+-- the trait LabelSlot cite them, and what a source file names has to be in specs/. Assumes nothing.
 use Rattle.std.specs.Prelude.{ℕ, ◌≡◌, List, [], length}
 use Rattle.std.proofs.Common.{refl, ◌∙◌, sym}
 use Rattle.std.proofs.lemmas.List.Edits.{sets}

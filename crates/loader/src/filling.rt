@@ -13,26 +13,19 @@ use inst::{Inst, ops};
 use inst_decode::{Decoded, from_bytes};
 use tables::{RECORD, put};
 
-// The HALT that a load appends: the record `halt` of the definition.
-const HALT: Inst = Inst {
-    typ: ops::HALT,
-    val: 0,
-    start: 0,
-    len: 0,
-};
-
-// HALT behind the instructions, where the first pass counted it.
+// The HALT that a load appends, behind the instructions, where the first pass counted it. Here and in `fill` the table is written,
+// and `Code`, whose type says that a program's records are there, lends it read-only: so a `requires` says it.
 fn close(insts: &mut [u8], index: usize, count: usize)
     requires { count * 32 ≤ length insts.old }
     ensures { insts.new ≡ cond (ltb index count) (sets insts.old (index * 32) (bytes_of (inst_numbers halt))) insts.old }
 {
     if index < count {
-        put(insts, index, HALT);
+        put(insts, index, Inst::plain(ops::HALT, 0));
     }
 }
 
 // Every instruction record of an accepted image and the appended HALT, into a table that has room. Each is there to decode: the
-// first pass found no refusal.
+// first pass found no refusal. As there, each step is as long as what was read, and the record's index goes with it.
 fn fill(image: &[u8], insts: &mut [u8], count: usize)
     requires accepts { Accepts image.now count }
     requires inst_limit_in_bounds { inst_limit * 32 ≤ length insts.old }

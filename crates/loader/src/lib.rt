@@ -16,14 +16,15 @@ mod refusal;
 mod slots;
 
 use filling::load_insts;
-pub use labels::Linking;
 use labels::{head_link, next_link};
 use machine::{CALL_LIMIT, MEMORY_SIZE, Machine, STACK_LIMIT};
 pub use refusal::Refusal;
 pub use slots::LabelSlot;
-use tables::RECORD;
+use slots::link;
+use tables::{Code, RECORD};
 
-// The limits of document 01: an image's bytes, its instructions, and the records of a label table.
+// The limits of document 01: an image's bytes, its instructions, and the records of a label table. All are public, since a host's
+// sizes go by them.
 pub const IMAGE_LIMIT: usize = 16384;
 
 pub const INST_LIMIT: usize = 4096;
@@ -44,9 +45,9 @@ pub struct Accepted {
 
 // The same, and how many label records the image has, the head counted.
 #[derive(Clone, Copy)]
-pub struct Checked {
-    pub accepted: Accepted,
-    pub labels: usize,
+struct Checked {
+    accepted: Accepted,
+    labels: usize,
 }
 
 // The fresh machine: not halted, empty stacks with every slot 0, zero bytes, flags 0.
@@ -65,7 +66,7 @@ pub fn fresh(ip: usize) -> Machine
     }
 }
 
-// A load into a label table of bytes or of records. Only this function and `link` hold the label table.
+// A load into a label table of bytes or of records. Under from_binary only this function, `link` and `LabelSlot` hold it.
 pub fn load<S: LabelSlot>(
     image: &[u8],
     insts: &mut [u8],
@@ -74,10 +75,15 @@ pub fn load<S: LabelSlot>(
     ensures { LoadTables S.slots (load image.now (insts_of insts.old) (S.records labels.old)) insts.old labels.old result insts.new labels.new }
 {
     let checked = load_insts(image, insts, S::count(labels))?;
-    let mut next = Some(head_link(checked));
+    let code = Code {
+        image,
+        insts,
+        count: checked.accepted.count,
+    };
+    let mut next = Some(head_link(checked.labels));
     while let Some(l) = next {
-        S::link(labels, l);
-        next = next_link(insts, l);
+        link(labels, l);
+        next = next_link(code, l);
     }
     Ok(checked.accepted)
 }

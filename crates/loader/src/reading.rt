@@ -1,5 +1,5 @@
 // Reading an image instruction by instruction.
-ghost use Rattle.std.specs.Prelude.{◌≡◌, List, ℕ, ◌+◌, ◌^◌, ◌≤◌, ◌<◌, length, IfOk};
+ghost use Rattle.std.specs.Prelude.{◌≡◌, List, ℕ, ◌+◌, ◌^◌, ◌<◌, ◌&&◌, leb, length, IfOk};
 ghost use Rattle.inst.specs.Records.{part, same};
 ghost use Rattle.inst_decode.specs.Decode.{from_bytes};
 ghost use Rattle.machine.specs.Limits.{inst_limit, label_records};
@@ -9,11 +9,12 @@ ghost use Rattle.loader.specs.Reading.{counts_of, next_of, Further};
 ghost use Rattle.loader.specs.Reading as definition;
 
 use crate::{INST_LIMIT, LABEL_RECORDS, Refusal};
-use inst::{ops, same_name};
+use inst::{ops, part, same_name};
 use inst_decode::{Decoded, from_bytes};
 
 // What is kept of an image that was read so far: the next byte, the instructions, the label records with their head, the last
-// target of `_start`, whether there was a NATIVE, and whether the last instruction is HALT.
+// target of `_start`, whether there was a NATIVE, and whether the last instruction is HALT: two answers that always mean
+// something, also before the first instruction.
 #[derive(Clone, Copy)]
 pub struct Counts {
     pub at: usize,
@@ -54,27 +55,24 @@ impl Counts {
         }
     }
 
-    // A label record more. `start` says whether it defines `_start`, with the target `index`.
-    fn labelled(self, start: bool, index: usize) -> Counts
+    // A label record more. `start` is its target where it defines `_start`.
+    fn labelled(self, start: Option<usize>) -> Counts
         requires { self.labels < label_records }
-        ensures { result ≡ definition.labelled self start index }
+        ensures { result ≡ definition.labelled self start }
     {
         Counts {
             labels: self.labels + 1,
-            start: if start { Some(index) } else { self.start },
+            start: start.or(self.start),
             ..self
         }
     }
 }
 
-// Whether a name of the image is `_start`, by same_name, which says it in the definition's word.
+// Whether that part of the image is there and is `_start`, by same_name, which says it in the definition's word.
 fn is_start(image: &[u8], start: u64, len: u64) -> bool
-    requires { start + len ≤ length image.now }
-    ensures { result ≡ same start_name (part image.now start len) }
+    ensures { result ≡ (leb (start + len) (length image.now) && same start_name (part image.now start len)) }
 {
-    let from = start as usize;
-    let to = from + len as usize;
-    same_name(b"_start", &image[from..to])
+    part(image, start, len).is_some_and(|name| same_name(b"_start", name))
 }
 
 // One instruction more: 2, 3 or 4, then 5, 6. The answer is that of whatever scan the counts stand for: only the first
@@ -94,5 +92,6 @@ pub fn next_inst(image: &[u8], c: Counts) -> Result<Counts, Refusal>
     if c.labels >= LABEL_RECORDS {
         return Err(Refusal::TooManyLabels);
     }
-    Ok(d.labelled(is_start(image, i.start, i.len), c.insts))
+    let start = is_start(image, i.start, i.len).then_some(c.insts);
+    Ok(d.labelled(start))
 }

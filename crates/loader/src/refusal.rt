@@ -19,11 +19,11 @@ pub enum Refusal {
     NoRoom = 10,
 }
 
-impl Refusal {
-    pub fn number(self) -> u8
-        ensures { result ≡ number_of self }
-    {
-        self as u8
+impl From<Refusal> for u8 {
+    ghost from_gives = { λ refusal number. number ≡ number_of refusal };
+
+    fn from(refusal: Refusal) -> u8 {
+        refusal as u8
     }
 }
 

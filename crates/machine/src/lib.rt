@@ -13,8 +13,9 @@ pub const CALL_LIMIT: usize = 1024;
 
 pub const MEMORY_SIZE: usize = 1024;
 
-// One machine. The data stack is the first `height` cells of `stack`, the call stack the first `call_height`
-// addresses of `calls`.
+// One machine. The data stack is the first `height` cells of `stack`, the call stack the first `call_height` addresses of
+// `calls`. Heights stand beside whole arrays, field by field as in the definitions: it crosses to C in this layout, its memory
+// is fixed, and the slots above a height are part of it, which keep what was popped.
 #[repr(C)]
 #[derive(Clone, Copy)]
 pub struct Machine {
@@ -60,7 +61,7 @@ impl From<Ending> for u64 {
         match ending {
             Ending::Halted => 0,
             Ending::Limit => 1,
-            Ending::Trap(trap) => u8::from(trap) as u64,
+            Ending::Trap(trap) => u64::from(u8::from(trap)),
             Ending::BufferFull => 33,
             Ending::IllState => 34,
         }

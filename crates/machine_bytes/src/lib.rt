@@ -2,7 +2,7 @@
 // What reads and writes is lent bytes as long as a machine, by their type.
 #![tactic(auto)]
 
-ghost use Rattle.std.specs.Prelude.{◌≡◌, ◌+◌, ◌*◌, ◌≤◌, cond, [], ◌∷◌, ◌++◌, length};
+ghost use Rattle.std.specs.Prelude.{◌≡◌, ◌+◌, ◌*◌, ◌≤◌, cond, Some, None, [], ◌∷◌, ◌++◌, length};
 ghost use Rattle.std.proofs.lemmas.List.Edits.{sets};
 ghost use Rattle.tables.specs.Tables.{numbers_in, bytes_of};
 ghost use Rattle.step_core.specs.Parts.{height_of_calls, of_parts};
@@ -10,7 +10,7 @@ ghost use Rattle.machine_bytes.specs.Layout.{height_at, is_machine, machine_of, 
 ghost use Rattle.step_core.specs.Parts.{registers_of};
 
 use machine::{CALL_LIMIT, MEMORY_SIZE, Machine, STACK_LIMIT};
-use step_core::Registers;
+use step_core::{Arrays, Registers};
 use tables::{NUMBER, number_at};
 use word::{put_word, word_at};
 
@@ -36,14 +36,8 @@ pub const MACHINE_SIZE: usize = HALTED + 1;
 // Bytes as long as a machine.
 pub type MachineBytes = [u8; MACHINE_SIZE];
 
-// Whether bytes are a machine's: as long as one, and 0 or 1 for halted.
-pub fn is_machine(bytes: &[u8]) -> bool
-    ensures { result ≡ is_machine bytes.now }
-{
-    bytes.len() == MACHINE_SIZE && bytes[HALTED] < 2
-}
-
-// The numbers of bytes: one copy, once compiled.
+// The numbers of bytes: one copy, once compiled. Here and in the next one the other slice is read or written by the index: of a
+// `zip` over `iter_mut`, and of `as_chunks_mut`, the library says how long the slice is afterwards, and not what is in it.
 fn read_numbers(from: &[u8], to: &mut [u64])
     requires { length from.now ≡ length to.old * 8 }
     ensures { to.new ≡ numbers_in from.now }
@@ -64,20 +58,16 @@ fn write_numbers(from: &[u64], at: usize, to: &mut [u8])
 }
 
 // A machine's arrays.
-pub fn read_arrays(
-    machine: &MachineBytes,
-    stack: &mut [u64; STACK_LIMIT],
-    calls: &mut [u64; CALL_LIMIT],
-    memory: &mut [u8; MEMORY_SIZE],
-)
-    ensures { (stack.new ≡ (machine_of machine.now).stack) × (calls.new ≡ (machine_of machine.now).calls) × (memory.new ≡ (machine_of machine.now).memory) }
+pub fn read_arrays(machine: &MachineBytes, arrays: &mut Arrays)
+    ensures { (arrays.new.stack ≡ (machine_of machine.now).stack) × (arrays.new.calls ≡ (machine_of machine.now).calls) × (arrays.new.memory ≡ (machine_of machine.now).memory) }
 {
-    read_numbers(&machine[STACK..CALLS], stack);
-    read_numbers(&machine[CALLS..MEMORY], calls);
-    memory.copy_from_slice(&machine[MEMORY..HEIGHT]);
+    read_numbers(&machine[STACK..CALLS], &mut arrays.stack);
+    read_numbers(&machine[CALLS..MEMORY], &mut arrays.calls);
+    arrays.memory.copy_from_slice(&machine[MEMORY..HEIGHT]);
 }
 
-// Its numbers that a run carries.
+// Its numbers that a run carries. These three are functions by name, and no From: MachineBytes is another name of an array,
+// from which we can't give a From to a number that isn't ours either, nor tell flags from halted by their types.
 pub fn registers_of(machine: &MachineBytes) -> Registers
     ensures { result ≡ registers_of (machine_of machine.now) }
 {
@@ -95,11 +85,15 @@ pub fn flags_of(machine: &MachineBytes) -> u8
     machine[FLAGS]
 }
 
-#[tactic(auto, unfolding(crate::specs::Layout::machine_of))]
-pub fn is_halted(machine: &MachineBytes) -> bool
-    ensures { result ≡ (machine_of machine.now).halted }
+// Whether it is halted; None where its byte for that is neither 0 nor 1: the bytes are no machine's.
+pub fn halted_of(machine: &MachineBytes) -> Option<bool>
+    ensures { result ≡ cond (is_machine machine.now) (Some (machine_of machine.now).halted) None }
 {
-    machine[HALTED] == 1
+    match machine[HALTED] {
+        0 => Some(false),
+        1 => Some(true),
+        _ => None,
+    }
 }
 
 // The arrays, into the bytes before the height, which they fill.
@@ -128,29 +122,27 @@ fn write_registers(regs: Registers, flags: u8, halted: bool, machine: &mut Machi
     machine[HALTED] = u8::from(halted);
 }
 
-// The machine of these parts, in every byte.
+// The machine of these parts, in every byte. Flags and halted come beside the registers, as a run has them: it carries no
+// halted while it goes on. Registers and flags aren't one struct: quick has it (Reached), which this crate has no need of, and
+// with the steps that are left, of which no byte tells.
 pub fn write_parts(
     regs: Registers,
     flags: u8,
     halted: bool,
-    stack: &[u64; STACK_LIMIT],
-    calls: &[u64; CALL_LIMIT],
-    memory: &[u8; MEMORY_SIZE],
+    arrays: &Arrays,
     machine: &mut MachineBytes,
 )
-    ensures { machine.new ≡ machine_bytes (of_parts regs flags stack.now calls.now memory.now halted) }
+    ensures { machine.new ≡ machine_bytes (of_parts regs flags arrays.now.stack arrays.now.calls arrays.now.memory halted) }
 {
-    write_arrays(stack, calls, memory, machine);
+    write_arrays(&arrays.stack, &arrays.calls, &arrays.memory, machine);
     write_registers(regs, flags, halted, machine);
 }
 
 pub fn write_machine(m: &Machine, machine: &mut MachineBytes)
     ensures { machine.new ≡ machine_bytes m.now }
 {
-    let regs = Registers::from(m);
-    write_parts(
-        regs, m.flags, m.halted, &m.stack, &m.calls, &m.memory, machine,
-    );
+    write_arrays(&m.stack, &m.calls, &m.memory, machine);
+    write_registers(Registers::from(m), m.flags, m.halted, machine);
 }
 
 // No code: its contract states that a machine crosses and comes back.

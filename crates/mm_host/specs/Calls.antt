@@ -1,13 +1,17 @@
 -- What each of the host's calls answers and leaves in every byte that it is lent, by crate machine's load, run and encode.
-use Rattle.std.specs.Prelude.{ℕ, ◌-◌, cond, List, eqb, length}
+use Rattle.std.specs.Prelude.{ℕ, cond, List, Result as Answered, Ok, Err, eqb, length}
 use Rattle.machine.specs.Load.{Load, rejects, accepts, fresh, count_of}
 use Rattle.machine.specs.Run.{Result}
 use Rattle.machine.specs.Encode.{Encoded, unencoded, encoded, encode, encoded_size, output_after}
 use Rattle.tables.specs.Tables.{insts_of, program}
+use Rattle.loader.specs.declared.Accepted.{Accepted}
+use Rattle.loader.specs.declared.refusal.Refusal.{Refusal}
+use Rattle.loader.specs.Refusals.{number_of}
 use Rattle.loader.specs.Loading.{load_of, insts_left, labels_left}
 use Rattle.run.specs.Runs.{run_bytes}
 use Rattle.machine.specs.Ending.{ending_number}
 use Rattle.mm_host.specs.declared.Encoded as answer
+use Rattle.mm_host.specs.declared.Loaded as answer_of_load
 use Rattle.machine_bytes.specs.Layout.{machine_size, is_machine, machine_of, machine_bytes}
 
 -- what is lent is no machine; a number of our own
@@ -21,6 +25,11 @@ pub record LoadCall : Type 0 where
   pub insts : List ℕ
   pub labels : List ℕ
   pub machine : List ℕ
+
+-- the answer of crate loader, as numbers
+abbrev pub loaded_numbers : Answered Accepted Refusal → answer_of_load.Loaded
+loaded_numbers (Ok a) = record { number = 0; count = a.count }
+loaded_numbers (Err e) = record { number = number_of e; count = 0 }
 
 -- with a number nothing is written
 abbrev pub not_loaded : ℕ → List ℕ → List ℕ → List ℕ → LoadCall

@@ -5,8 +5,8 @@
 ghost use Rattle.std.specs.Prelude.{◌≡◌};
 ghost use Rattle.mm_host.specs.Calls.{load_call, run_call, encode_call, size_call};
 
-use c_answers::{Loaded, Ran};
-use mm_host::Encoded;
+use c_answers::Ran;
+use mm_host::{Encoded, Loaded};
 
 #[unsafe(no_mangle)]
 pub extern "C" fn mm_load(

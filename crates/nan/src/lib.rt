@@ -9,8 +9,9 @@ ghost use Rattle.nan.specs.Cells as cells;
 const SIGN: u64 = 0x8000000000000000;
 
 // 2^48: a magnitude is below it
-const VALUES: u64 = 0x1000000000000;
+pub const VALUES: u64 = 0x1000000000000;
 
+// Unknown is a type as the others are, and no lack of one: the definitions are over the five, and trap 31 is a rule about the fifth.
 #[derive(Clone, Copy, PartialEq, Eq)]
 pub enum CellType {
     F64,
@@ -38,6 +39,7 @@ pub fn get_type(cell: u64) -> CellType
     }
 }
 
+// get_value, as_u64 and signed are a line or two over the library's casts, under the names of the definitions that they promise.
 pub fn get_value(cell: u64) -> i64
     ensures { result ≡ cells.value cell }
 {
@@ -69,6 +71,7 @@ pub fn signed(n: u64) -> i64
     n.cast_signed()
 }
 
+// The two makers of cells are a line each, over what they share.
 pub fn from_i64(v: i64) -> u64
     ensures { result ≡ cells.from_i64 v }
 {

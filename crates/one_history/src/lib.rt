@@ -11,9 +11,10 @@ ghost use Rattle.one_history.specs.Calls.{CallTheorems};
 ghost use Rattle.one_history.specs.Host as host;
 ghost use Rattle.one_history.specs.Host.{HostTheorems};
 
-use c_answers::{Loaded, Ran as HostRan};
+use c_answers::Ran as HostRan;
 use loader::{Accepted, Refusal};
 use machine::{Label, Machine};
+use mm_host::Loaded;
 use run::Ran;
 
 // A call of from_binary gives what the statement asks of the load.
@@ -39,7 +40,8 @@ pub fn run(
     run::execute_program(image, insts, labels, count, m, limit, dumps)
 }
 
-// The same over label records.
+// The same over label records. They are two functions, since each holds one statement's hypothesis to a call, and the two
+// statements are over tables of different types.
 pub fn run_records(
     image: &[u8],
     insts: &[u8],

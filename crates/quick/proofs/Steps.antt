@@ -58,6 +58,14 @@ plus_more k k' r h =
     let e : k + suc r.steps ≡ k' + r.steps = omega arith in
     ap (λ (n : ℕ). record { machine = r.machine; ending = r.ending; steps = n; cells = r.cells }) e
 
+-- what an entry holds, by its index
+module _ {k known : Known} {at ip : ℕ} (e : (k ≡ known) × (at ≡ ip)) where
+  pub key_is : get_or k.keys at 0 ≡ get_or known.keys ip 0
+  key_is = ap (λ (n : Known). get_or n.keys at 0) e.0 ∙ ap (λ (i : ℕ). get_or known.keys i 0) e.1
+
+  pub target_is : get_or k.targets at 0 ≡ get_or known.targets ip 0
+  target_is = ap (λ (n : Known). get_or n.targets at 0) e.0 ∙ ap (λ (i : ℕ). get_or known.targets i 0) e.1
+
 module _ (xs : List ℕ) (known : Known) where
   -- no step was made yet
   pub begun : (c : Registers) (f steps : ℕ) (s ca me : List ℕ) → Inside c →

@@ -23,13 +23,6 @@ IsStepOrStop e s ca me s' ca' me' None = (s' ≡ s) × (ca' ≡ ca) × (me' ≡ 
 pub record StepOrStop (e : Stepped) (s ca me s' ca' me' : List ℕ) (r : Option (Registers × ℕ)) : Type 0 where
   pub holds : IsStepOrStop e s ca me s' ca' me' r
 
--- a step that sees no array, and one that sees the call stack alone: whatever the others are
-abbrev pub QuickOnRegisters : (Machine → Stepped) → Registers → ℕ → Option (Registers × ℕ) → Type 0
-QuickOnRegisters i c f r = (s ca me : List ℕ) → StepOrStop (i (of_parts c f s ca me false)) s ca me s ca me r
-
-abbrev pub QuickOnCalls : (Machine → Stepped) → Registers → ℕ → List ℕ → Option (Registers × ℕ) → List ℕ → Type 0
-QuickOnCalls i c f ca r ca' = (s me : List ℕ) → StepOrStop (i (of_parts c f s ca me false)) s ca me s ca' me r
-
 -- the instruction at the pointer, whose key and cell or number are these, and whose lookup finds t where it makes one
 abbrev pub ExecutesKnown : ℕ → ℕ → ℕ → Registers → ℕ → List ℕ → List ℕ → List ℕ → Option (Registers × ℕ) → List ℕ → List ℕ → List ℕ → Type 0
 ExecutesKnown key v t c f s ca me r s' ca' me' =

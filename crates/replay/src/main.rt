@@ -3,8 +3,9 @@
 #![tactic(auto)]
 
 ghost use Rattle.std.specs.Prelude.{◌+◌, ◌≤◌, ◌<◌, IfSome, length};
+ghost use Rattle.digests.specs.Replays.{digest_bytes};
 
-use digests::{DIGEST, Replayed, replay_image};
+use digests::{DIGEST, Recorded, Replayed, replay_image};
 use input::read_full;
 use loader::{INST_BYTES, LABEL_BYTES};
 use std::fmt;
@@ -12,16 +13,15 @@ use std::fmt;
 // More bytes than the sample has.
 const INPUT: usize = 262144;
 
-// An image, the number of its refusal or 0, and the digests that were recorded.
+// An image, and what was recorded of it.
 #[derive(Clone, Copy, Drop)]
 struct Record<'a> {
     image: &'a [u8],
-    number: u8,
-    digests: &'a [u8],
+    recorded: Recorded<'a>,
 }
 
 // What is counted over all records.
-#[derive(Clone, Copy, Drop)]
+#[derive(Clone, Copy, Default, Drop)]
 struct Totals {
     images: usize,
     steps: usize,
@@ -47,44 +47,42 @@ fn half_word(bytes: &[u8]) -> Option<(u16, &[u8])>
     Some((u16::from_le_bytes(*half), rest))
 }
 
+// What was recorded at the front, and what is behind it: a refusal's number, or 0 and the digests.
+fn parse_recorded(bytes: &[u8]) -> Option<(Recorded<'_>, &[u8])>
+    ensures { IfSome result (λ p. length (digest_bytes p.0) + length p.1.now < length bytes.now) }
+{
+    let (number, rest) = bytes.split_first()?;
+    if *number != 0 {
+        return Some((Recorded::Refused(*number), rest));
+    }
+    let (steps, rest) = half_word(rest)?;
+    let (digests, rest) = rest.split_at_checked(usize::from(steps) * DIGEST)?;
+    Some((Recorded::Steps(digests), rest))
+}
+
 // The record at the front, and what is behind it.
 fn parse(bytes: &[u8]) -> Option<(Record<'_>, &[u8])>
-    ensures { IfSome result (λ p. length p.0.digests.now + length p.1.now < length bytes.now) }
+    ensures { IfSome result (λ p. length (digest_bytes p.0.recorded) + length p.1.now < length bytes.now) }
 {
     let (len, rest) = half_word(bytes)?;
     let (image, rest) = rest.split_at_checked(usize::from(len))?;
-    let (number, rest) = rest.split_first()?;
-    let (steps, rest) = if *number == 0 {
-        half_word(rest)?
-    } else {
-        (0, rest)
-    };
-    let (digests, rest) = rest.split_at_checked(usize::from(steps) * DIGEST)?;
-    let record = Record {
-        image,
-        number: *number,
-        digests,
-    };
-    Some((record, rest))
+    let (recorded, rest) = parse_recorded(rest)?;
+    Some((Record { image, recorded }, rest))
 }
 
 fn replay_record(r: Record<'_>) -> Replayed
-    ensures { result.steps ≤ length r.entry.digests.now }
+    ensures { result.steps ≤ length (digest_bytes r.entry.recorded) }
 {
     let mut insts = [0u8; INST_BYTES];
     let mut labels = [0u8; LABEL_BYTES];
-    replay_image(r.image, r.number, r.digests, &mut insts, &mut labels)
+    replay_image(r.image, r.recorded, &mut insts, &mut labels)
 }
 
 // Each record of the file, up to the first that isn't one; a line where an image differs from what was recorded. What can't
-// be written is passed over.
+// be written is passed over. The loop counts no index: where a record ends is read from it.
 fn replay(rt: &impl Print, bytes: &[u8]) {
     let mut rest = bytes;
-    let mut totals = Totals {
-        images: 0,
-        steps: 0,
-        differ: 0,
-    };
+    let mut totals = Totals::default();
     while !rest.is_empty() {
         let Some((record, behind)) = parse(rest) else {
             let at = bytes.len() - rest.len();

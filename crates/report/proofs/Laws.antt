@@ -6,7 +6,12 @@ use native.Mathlib.Nat.{pow-suc, one-le-pow, pow-le-pow_right, lt_of_not-le, le_
 use native.Mathlib.Omega.{arith}
 use lib.Dec.{ltb, lit<, lit≤}
 use lib.ListN.{length, get_or, take, drop, length-append}
-use lib.Seq.{sets, length-sets, length-take-le}
+use lib.Seq.{sets, length-sets, length-take-le, drop-drop}
+use Rattle.std.specs.Int.{w64, from_le_bytes}
+use Rattle.std.specs.Simd.{first_chunks}
+use Rattle.word.proofs.Laws.{eight_read}
+use Rattle.tables.specs.Tables.{numbers_in}
+use Rattle.tables.proofs.Bytes.{number_word}
 use Rattle.std.proofs.lemmas.List.{take_more}
 use borrow.Author.Tests.{lt-ltb, le-ltb}
 use Rattle.inst.proofs.Parts.{lent_whole}
@@ -92,7 +97,7 @@ unfolding cell_lines
 length_lines [] = refl
 length_lines (cell ∷ cells) = simp length-append (omega (arith, length_line cell, length_lines cells))
 
--- the lines of the first i cells are printed: of none; of one more; and there is room for one more of n
+-- the lines of the first i cells are printed: of none; of one more; and there is room for one more of all
 pub lines_begin : {o : Output} → Prints o (cell_lines []) o
 unfolding cell_lines
 lines_begin = record { same_reference = refl; put = record { text_is = refl; next_is = omega arith } }
@@ -105,19 +110,31 @@ pub lines_next : {o o₁ o₂ : Output} (cells : List ℕ) (i : ℕ) → i < len
     → Prints o₁ (cell_line (get_or cells i 0)) o₂ → Prints o (cell_lines (take (i + 1) cells)) o₂
 lines_next cells i h p q = rw (lines_more cells i h) (prints_both p q)
 
-pub lines_room : {o o₁ : Output} (cells : List ℕ) (n i : ℕ) → n ≤ length cells → i < n → Prints o (cell_lines (take i cells)) o₁
-    → HasRoom o (cell_lines (take n cells)) → HasRoom o₁ (cell_line (get_or cells i 0))
-lines_room cells n i h below p room =
+pub lines_room : {o o₁ : Output} (cells : List ℕ) (i : ℕ) → i < length cells → Prints o (cell_lines (take i cells)) o₁
+    → HasRoom o (cell_lines cells) → HasRoom o₁ (cell_line (get_or cells i 0))
+lines_room cells i below p room =
     omega (
       arith,
       length_lines (take i cells),
-      length_lines (take n cells),
+      length_lines cells,
       length-take-le i cells (omega arith),
-      length-take-le n cells h,
       length_line (get_or cells i 0),
       same_length p.put,
       p.put.next_is,
     )
+
+-- number i of some bytes, read from its eight of them
+chunk_at : (k i : ℕ) (bs : List ℕ) → i < k → get_or (first_chunks 8 k bs) i [] ≡ take 8 (drop (i * 8) bs)
+chunk_at zero i bs h = absurd (omega arith)
+chunk_at (suc k) zero bs h = refl
+chunk_at (suc k) (suc i) bs h =
+    let n : 8 + i * 8 ≡ suc i * 8 = omega arith in
+    chunk_at k i (drop 8 bs) (omega arith) ∙ ap (take 8) (drop-drop (i * 8) 8 bs ∙ ap (λ m. drop m bs) n)
+
+pub chunk_is : (bs : List ℕ) (i : ℕ) → i < length bs / 8 → from_le_bytes w64 (get_or (first_chunks 8 (length bs / 8) bs) i []) ≡ get_or (numbers_in bs) i 0
+chunk_is bs i h =
+    let n : 8 ≡ i * 8 + 8 - i * 8 = omega arith in
+    ap (from_le_bytes w64) (chunk_at (length bs / 8) i bs h ∙ ap (λ m. take m (drop (i * 8) bs)) n) ∙ eight_read bs (i * 8) (omega arith) ∙ sym (number_word bs i (omega arith))
 
 pub numeral_short : (most n : ℕ) → length (numeral most n) ≤ most
 unfolding numeral

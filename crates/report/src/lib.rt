@@ -1,15 +1,17 @@
 // The text of the lines that `runimage` prints, put into a lent text one behind the other. What prints has a `requires`,
-// that there is room: only transcript calls it, and proves it. It is no fmt::Write, which may fail and says nothing then.
+// that there is room for its line: each line needs another room and takes it from the next, so no invariant of Output says
+// it, and transcript proves that all lines fit. It is no fmt::Write, since a write there may fail and says nothing then; here
+// nothing can fail, and each print states its text. Numbers are printed by io, for Display goes through fmt::Write.
 #![tactic(auto)]
 
-ghost use Rattle.std.specs.Prelude.{◌≡◌, ◌++◌, ◌*◌, ◌≤◌, length, take};
+ghost use Rattle.std.specs.Prelude.{◌≡◌, ◌++◌};
 ghost use Rattle.machine.specs.Ending.{ending_of};
 ghost use Rattle.tables.specs.Tables.{numbers_in};
 ghost use Rattle.report.specs.Outputs.{HasRoom, Prints};
 ghost use Rattle.report.specs.Text.{decimal, cell_line, cell_lines, ending_text, end_line, refused_line};
 
-use machine::Ending;
-use tables::number_at;
+use machine::{Ending, Machine};
+use tables::NUMBER;
 
 // A lent text, and how many bytes of it are printed.
 #[derive(Drop)]
@@ -65,14 +67,14 @@ impl<'a> Output<'a> {
         self.push(b"\n");
     }
 
-    // The lines of the first n cells of a dump buffer.
-    pub fn cell_lines(&mut self, cells: &[u8], n: usize)
-        requires n_in_bounds { n * 8 ≤ length cells.now }
-        requires room { HasRoom self.old (cell_lines (take n (numbers_in cells.now))) }
-        ensures { Prints self.old (cell_lines (take n (numbers_in cells.now))) self.new }
+    // The lines of a dump buffer's cells.
+    pub fn cell_lines(&mut self, cells: &[u8])
+        requires { HasRoom self.old (cell_lines (numbers_in cells.now)) }
+        ensures { Prints self.old (cell_lines (numbers_in cells.now)) self.new }
     {
-        for i in 0..n {
-            self.cell_line(number_at(cells, i));
+        let (whole, _) = cells.as_chunks::<NUMBER>();
+        for cell in whole {
+            self.cell_line(u64::from_le_bytes(*cell));
         }
     }
 
@@ -88,17 +90,18 @@ impl<'a> Output<'a> {
         }
     }
 
-    // The last line.
-    pub fn end_line(&mut self, ending: Ending, steps: u64, ip: u64, height: u64, calls: u64)
-        requires { HasRoom self.old (end_line (ending_of ending) steps ip height calls) }
-        ensures { Prints self.old (end_line (ending_of ending) steps ip height calls) self.new }
+    // The last line, of the machine as the run left it.
+    #[tactic(auto, using(crate::proofs::Laws::same_length), unfolding(crate::specs::Text::end_line))]
+    pub fn end_line(&mut self, ending: Ending, steps: u64, m: &Machine)
+        requires { HasRoom self.old (end_line (ending_of ending) steps m.now.ip m.now.height m.now.call_height) }
+        ensures { Prints self.old (end_line (ending_of ending) steps m.now.ip m.now.height m.now.call_height) self.new }
     {
         self.push(b"end ");
         self.ending(ending);
         self.number(b" steps ", steps);
-        self.number(b" ip ", ip);
-        self.number(b" height ", height);
-        self.number(b" calls ", calls);
+        self.number(b" ip ", m.ip as u64);
+        self.number(b" height ", m.height as u64);
+        self.number(b" calls ", m.call_height as u64);
         self.push(b"\n");
     }
 

@@ -27,13 +27,13 @@ use Rattle.step_core.specs.Parts.{of_parts, Inside}
 use Rattle.quick.proofs.Turns.{before_ill, before_full, before_on}
 use Rattle.std.specs.declared.ops.ControlFlow.{ControlFlow}
 use Rattle.std.specs.declared.ops.ControlFlow.TheVariants.{Continue, Break}
-use Rattle.run.specs.declared.progress.Progress.{Progress}
+use Rattle.quick.specs.declared.Reached.{Reached}
 use Rattle.run.specs.declared.progress.Outcome.{Outcome}
 use Rattle.run.specs.Turns.{more, turned, Fills, Follows}
 use Rattle.run.proofs.Courses.{more_next, more_dump, more_ended, more_last, took, cell_written}
 
 -- the answer is d
-pub for_answer : {a d : Executed} {at : Progress} {b b' : List ℕ} {r : ControlFlow Outcome Progress} → a ≡ d → Follows d at b b' r → Follows a at b b' r
+pub for_answer : {a d : Executed} {at : Reached} {n n' : ℕ} {b b' : List ℕ} {r : ControlFlow Outcome Reached} → a ≡ d → Follows d at n b n' b' r → Follows a at n b n' b' r
 for_answer e h = rw e h
 
 -- a step that is taken
@@ -81,17 +81,17 @@ none : (n : ℕ) (b : List ℕ) → n * 8 ≤ length b → Fills n b n b
 none n b h = record { filled = h; long = refl; written = λ b₀ e. e }
 
 -- a run's numbers
-abbrev pub progress : Registers → ℕ → ℕ → ℕ → Progress
-progress c f left n = record { regs = c; flags = f; left = left; dumped = n }
+abbrev pub progress : Registers → ℕ → ℕ → Reached
+progress c f left = record { regs = c; left = left; flags = f }
 
-abbrev pub outcome : Progress → code.Ending → Outcome
-outcome at e = record { at = at; ending = e }
+abbrev pub outcome : Reached → ℕ → code.Ending → Outcome
+outcome at n e = record { at = at; dumped = n; ending = e }
 
 module _ (c : Registers) (f left n : ℕ) (b : List ℕ) (l : 0 < left) (h : n * 8 ≤ length b) where
-  abbrev at : Progress
-  at = progress c f left n
+  abbrev at : Reached
+  at = progress c f left
 
-  pub after_next : (on : Registers) → Inside on → Follows (Next on) at b b (Continue (progress on f (left - 1) n))
+  pub after_next : (on : Registers) → Inside on → Follows (Next on) at n b n b (Continue (progress on f (left - 1)))
   after_next on i =
       record {
         followed = (
@@ -102,7 +102,7 @@ module _ (c : Registers) (f left n : ℕ) (b : List ℕ) (l : 0 < left) (h : n *
         );
       }
 
-  pub after_compared : (on : Registers) (g : ℕ) → Inside on → Follows (Compared on g) at b b (Continue (progress on g (left - 1) n))
+  pub after_compared : (on : Registers) (g : ℕ) → Inside on → Follows (Compared on g) at n b n b (Continue (progress on g (left - 1)))
   after_compared on g i =
       record {
         followed = (
@@ -113,7 +113,7 @@ module _ (c : Registers) (f left n : ℕ) (b : List ℕ) (l : 0 < left) (h : n *
         );
       }
 
-  pub after_dump : n < length b / 8 → (on : Registers) (x : ℕ) → Inside on → Follows (Dump on x) at b (sets b (n * 8) (eight_of x)) (Continue (progress on f (left - 1) (n + 1)))
+  pub after_dump : n < length b / 8 → (on : Registers) (x : ℕ) → Inside on → Follows (Dump on x) at n b (n + 1) (sets b (n * 8) (eight_of x)) (Continue (progress on f (left - 1)))
   after_dump g on x i =
       let z : length b / 8 - n ≡ 0 → ⊥ = λ e. omega arith in
       let e : length b / 8 - n - 1 ≡ length b / 8 - (n + 1) = omega arith in
@@ -130,7 +130,7 @@ module _ (c : Registers) (f left n : ℕ) (b : List ℕ) (l : 0 < left) (h : n *
         );
       }
 
-  pub after_full : length b / 8 ≤ n → (on : Registers) (x : ℕ) → Follows (Dump on x) at b b (Break (outcome (progress c f left n) variant.BufferFull))
+  pub after_full : length b / 8 ≤ n → (on : Registers) (x : ℕ) → Follows (Dump on x) at n b n b (Break (outcome (progress c f left) n variant.BufferFull))
   after_full g on x =
       let z : length b / 8 - n ≡ 0 = omega arith in
       record {
@@ -141,10 +141,11 @@ module _ (c : Registers) (f left n : ℕ) (b : List ℕ) (l : 0 < left) (h : n *
               ∙ rw (u.0, u.1, u.2) refl,
           omega arith,
           none n b h,
+          refl,
         );
       }
 
-  pub after_halt : (on : Registers) → Follows (Halt on) at b b (Break (outcome (progress on f (left - 1) n) variant.Halted))
+  pub after_halt : (on : Registers) → Follows (Halt on) at n b n b (Break (outcome (progress on f (left - 1)) n variant.Halted))
   after_halt on =
       record {
         followed = (
@@ -154,10 +155,11 @@ module _ (c : Registers) (f left n : ℕ) (b : List ℕ) (l : 0 < left) (h : n *
               ∙ more_last k (left - (left - 1)) (take n (numbers_in b)) Halted (of_parts on f s' ca' me' true) (omega arith),
           omega arith,
           none n b h,
+          refl,
         );
       }
 
-  pub after_trap : (on : Registers) (t : Cause) → Follows (Trap on t) at b b (Break (outcome (progress on f (left - 1) n) (variant.Trap t)))
+  pub after_trap : (on : Registers) (t : Cause) → Follows (Trap on t) at n b n b (Break (outcome (progress on f (left - 1)) n (variant.Trap t)))
   after_trap on t =
       record {
         followed = (
@@ -166,10 +168,11 @@ module _ (c : Registers) (f left n : ℕ) (b : List ℕ) (l : 0 < left) (h : n *
               ∙ more_last k (left - (left - 1)) (take n (numbers_in b)) (Number (trap_number t)) (of_parts on f s' ca' me' false) (omega arith),
           omega arith,
           none n b h,
+          refl,
         );
       }
 
-  pub after_ill : Follows Ill at b b (Break (outcome (progress c f left n) variant.IllState))
+  pub after_ill : Follows Ill at n b n b (Break (outcome (progress c f left) n variant.IllState))
   after_ill =
       record {
         followed = (
@@ -179,5 +182,6 @@ module _ (c : Registers) (f left n : ℕ) (b : List ℕ) (l : 0 < left) (h : n *
               ∙ rw (u.0, u.1, u.2) refl,
           omega arith,
           none n b h,
+          refl,
         );
       }

@@ -1,42 +1,36 @@
 // What follows one step of a run.
-ghost use Rattle.std.specs.Prelude.{◌*◌, ◌≤◌, ◌<◌, length};
+ghost use Rattle.std.specs.Prelude.{◌≡◌, ◌<◌};
 ghost use Rattle.step_core.specs.Parts.{Small};
 ghost use Rattle.run.specs.Turns.{Follows};
 
-use crate::progress::{Outcome, Progress};
+use crate::dumps::Dumps;
+use crate::progress::{Outcome, behind};
 use machine::Ending;
+use quick::Reached;
 use std::ops::ControlFlow;
 use step_core::Executed;
-use tables::{NUMBER, put_number};
 
 // What an executed step comes to for a run that was at `at`: it goes on behind the step, or is over. An ill state and a full
 // buffer count no step and change nothing, a trap counts and ends the run.
-pub fn follow(answer: Executed, at: Progress, dumps: &mut [u8]) -> ControlFlow<Outcome, Progress>
-    requires { (0 < at.left) × (at.dumped * 8 ≤ length dumps.old) × Small answer }
-    ensures { Follows answer at dumps.old dumps.new result }
+pub fn follow(answer: Executed, at: Reached, dumps: &mut Dumps<'_>) -> ControlFlow<Outcome, Reached>
+    requires { (0 < at.left) × Small answer }
+    ensures same_buffer { dumps.new.buffer.ghost_name ≡ dumps.old.buffer.ghost_name }
+    ensures follows { Follows answer at dumps.old.filled dumps.old.buffer.now dumps.new.filled dumps.new.buffer.now result }
 {
     match answer {
-        Executed::Next(regs) => ControlFlow::Continue(at.behind(regs)),
-        Executed::Compared(regs, flags) => ControlFlow::Continue(Progress {
+        Executed::Next(regs) => ControlFlow::Continue(behind(at, regs)),
+        Executed::Compared(regs, flags) => ControlFlow::Continue(Reached {
             flags,
-            ..at.behind(regs)
+            ..behind(at, regs)
         }),
-        Executed::Dump(regs, cell) => {
-            let filled = at.dumped * NUMBER;
-            if dumps.len() - filled < NUMBER {
-                ControlFlow::Break(at.ends(Ending::BufferFull))
-            } else {
-                put_number(&mut dumps[filled..], 0, cell);
-                ControlFlow::Continue(Progress {
-                    dumped: at.dumped + 1,
-                    ..at.behind(regs)
-                })
-            }
-        }
-        Executed::Halt(regs) => ControlFlow::Break(at.behind(regs).ends(Ending::Halted)),
+        Executed::Dump(regs, cell) => match dumps.push(cell) {
+            None => ControlFlow::Break(dumps.ends(at, Ending::BufferFull)),
+            Some(()) => ControlFlow::Continue(behind(at, regs)),
+        },
+        Executed::Halt(regs) => ControlFlow::Break(dumps.ends(behind(at, regs), Ending::Halted)),
         Executed::Trap(regs, trap) => {
-            ControlFlow::Break(at.behind(regs).ends(Ending::Trap(trap)))
+            ControlFlow::Break(dumps.ends(behind(at, regs), Ending::Trap(trap)))
         }
-        Executed::Ill => ControlFlow::Break(at.ends(Ending::IllState)),
+        Executed::Ill => ControlFlow::Break(dumps.ends(at, Ending::IllState)),
     }
 }

@@ -1,28 +1,30 @@
-// A run (execute_program of mm's mm.rs) over the machine by value: the general step where something is new or ends the run,
-// and the quick loop for all the rest. Only execute_program, execute_parts and lookup hold the label table: where `steps`
-// needs a lookup it stops and asks for it.
+// A run (execute_program of mm's mm.rs): the general step where something is new or ends the run, and the quick loop for all the
+// rest. Only execute_program, execute_in_place, execute_parts and lookup hold the label table: where `steps` needs a lookup it
+// stops and asks for it.
 #![tactic(auto)]
 
-ghost use Rattle.std.specs.Prelude.{◌≡◌, ◌-◌, ◌≤◌};
+ghost use Rattle.std.specs.Prelude.{◌≡◌};
 ghost use Rattle.machine.specs.Ending.{ending_of};
 ghost use Rattle.step_core.specs.Parts.{of_parts};
-ghost use Rattle.step.specs.Steps.{arrays};
+ghost use Rattle.step.specs.Steps.{lent};
 ghost use Rattle.run.specs.Turns.{is_halted};
-ghost use Rattle.run.specs.Runs.{EndsAtOnce, Ready, Advances, Fit, ExecuteParts, ExecuteRecords};
+ghost use Rattle.run.specs.Runs.{Begins, Ready, Advances, ExecuteParts, ExecuteInPlace, ExecuteRecords};
 
+mod dumps;
 mod follows;
 pub mod progress;
 
+use crate::dumps::Dumps;
 use crate::follows::follow;
-use crate::progress::{Asking, Outcome, Progress};
+use crate::progress::{Asking, Outcome};
 use known::{KNOWN_LIMIT, Known, UNKNOWN};
 use lookup::lookup;
 use machine::{CALL_LIMIT, Ending, MEMORY_SIZE, Machine, STACK_LIMIT};
-use quick::run_known;
+use quick::{Reached, run_known};
 use std::ops::ControlFlow;
 use step::step;
-use step_core::{LookupError, Registers};
-use tables::RECORD;
+use step_core::{Arrays, LookupError, Registers};
+use tables::Code;
 use tables::labels::LabelTable;
 
 // What a run returns.
@@ -34,137 +36,86 @@ pub struct Ran {
     pub dumped: usize,
 }
 
-// 34 before the first step, but for the pointer and the record: no step changes it.
-fn is_ill(insts: &[u8], count: usize, regs: Registers) -> bool
-    ensures { Fit insts.now count regs result }
-{
-    STACK_LIMIT < regs.height || CALL_LIMIT < regs.call_height || insts.len() / RECORD < count
-}
-
-// How a run ends that halted, the limit 0 or 34 by what no step changes ends before its first step; None where none of them does.
-pub fn ends_at_once(
-    insts: &[u8],
+// The program, of which steps can be made; or how the run ends that makes none, since it halted, its limit is 0 or it is ill
+// (34) by what no step changes: all but the pointer and the record there.
+fn begin<'a>(
+    image: &'a [u8],
+    insts: &'a [u8],
     count: usize,
-    regs: Registers,
+    from: Reached,
     halted: bool,
-    limit: u64,
-) -> Option<Ending>
-    ensures { EndsAtOnce insts.now count regs halted limit result }
+) -> Result<Code<'a>, Ending>
+    ensures { Begins image.now insts.now count from halted result }
 {
     if halted {
-        Some(Ending::Halted)
-    } else if limit == 0 {
-        Some(Ending::Limit)
-    } else if is_ill(insts, count, regs) {
-        Some(Ending::IllState)
-    } else {
-        None
+        return Err(Ending::Halted);
     }
+    if from.left == 0 {
+        return Err(Ending::Limit);
+    }
+    if STACK_LIMIT < from.regs.height || CALL_LIMIT < from.regs.call_height {
+        return Err(Ending::IllState);
+    }
+    Code::new(image, insts, count).ok_or(Ending::IllState)
 }
 
 // The steps of a run from `from` on: one as the definition has it, then the known ones, and so on until the run is over or a
 // name must be looked up. `asked` is what was found for the name that it asked for, if it did. The loop keeps:
-// - the limit less the steps left lead to the machine of `at` and the arrays, with at.dumped cells dumped;
+// - the limit less the steps left lead to the machine of `at` and the arrays, with the filled cells dumped;
 // - heights are within their limits;
 // - what is known is right.
-// Only our own crates call it, and prove what it requires.
-pub fn steps(
-    image: &[u8],
-    insts: &[u8],
-    count: usize,
-    from: Progress,
-    asked: Option<Result<usize, LookupError>>,
-    stack: &mut [u64; STACK_LIMIT],
-    calls: &mut [u64; CALL_LIMIT],
-    memory: &mut [u8; MEMORY_SIZE],
+fn steps<'a>(
+    code: Code<'a>,
     known: &mut Known,
-    dumps: &mut [u8],
-) -> ControlFlow<Outcome, Asking>
-    requires { Ready insts.now count from dumps.old known.old }
-    ensures { Advances image.now insts.now count from asked dumps.old (arrays known.old stack.old calls.old memory.old) result dumps.new (arrays known.new stack.new calls.new memory.new) }
+    from: Reached,
+    asked: Option<Result<usize, LookupError>>,
+    arrays: &mut Arrays,
+    dumps: &mut Dumps<'_>,
+) -> ControlFlow<Outcome, Asking<'a>>
+    requires { Ready code.count from known.old }
+    ensures same_buffer { dumps.new.buffer.ghost_name ≡ dumps.old.buffer.ghost_name }
+    ensures advances { Advances code.entry.image.now code.entry.insts.now code.entry.count from asked dumps.old.filled dumps.old.buffer.now (lent known.old arrays.old) result dumps.new.filled dumps.new.buffer.now (lent known.new arrays.new) }
 {
     let mut at = from;
     let mut found = asked;
+    // No `for`: a turn takes as many steps as are known.
     while at.left > 0 {
-        let tried = step(
-            image, insts, count, known, at.flags, at.regs, found, stack, calls, memory,
-        );
-        let answer = match tried {
+        let Reached { regs, flags, .. } = at;
+        let answer = match step(code, known, flags, regs, found, arrays) {
             Ok(answer) => answer,
             Err(name) => return ControlFlow::Continue(Asking { at, name }),
         };
         let next = follow(answer, at, dumps)?;
-        let reached = run_known(
-            insts, known, next.regs, next.flags, stack, calls, memory, next.left,
-        );
-        at = Progress {
-            regs: reached.regs,
-            flags: reached.flags,
-            left: reached.left,
-            dumped: next.dumped,
-        };
+        at = run_known(code, known, next, arrays);
         found = None;
     }
-    ControlFlow::Break(at.ends(Ending::Limit))
-}
-
-// What a run returns, from the parts of one that is over. Only our own crates call it, and prove what it requires.
-pub fn pack(
-    stack: [u64; STACK_LIMIT],
-    calls: [u64; CALL_LIMIT],
-    memory: [u8; MEMORY_SIZE],
-    outcome: Outcome,
-    limit: u64,
-) -> Ran
-    requires { outcome.at.left ≤ limit }
-    ensures { result ≡ record { machine = of_parts outcome.at.regs outcome.at.flags stack calls memory (is_halted (ending_of outcome.ending)); ending = outcome.ending; steps = limit - outcome.at.left; dumped = outcome.at.dumped } }
-{
-    let at = outcome.at;
-    Ran {
-        machine: Machine {
-            stack,
-            height: at.regs.height,
-            calls,
-            call_height: at.regs.call_height,
-            memory,
-            flags: at.flags,
-            ip: at.regs.ip,
-            halted: outcome.is_halted(),
-        },
-        ending: outcome.ending,
-        steps: limit - at.left,
-        dumped: at.dumped,
-    }
+    ControlFlow::Break(dumps.ends(at, Ending::Limit))
 }
 
 // The run over a machine's parts, with the arrays lent, which no step copies: as long as it goes on, a lookup and the steps
-// up to the next one. `steps` and the functions that it calls have one caller each, or the compiler no longer makes one loop
-// of them (15 to 20 ns a step).
+// up to the next one. It begins at `from`, with as many steps left as its limit allows. `steps` and the functions that it
+// calls have one caller each, or the compiler no longer makes one loop of them (15 to 20 ns a step).
+// Image, records, labels and count stand one by one, here and in execute_program: they cross from a host as lent slices, the
+// count may be past its table, which is an answer of the run (34) and no Code, and the label table is of either type. A struct
+// of the four would be generic, made at each call and taken apart at once, in `begin`.
 pub fn execute_parts<T: LabelTable>(
     image: &[u8],
     insts: &[u8],
     labels: T,
     count: usize,
-    regs: Registers,
-    flags: u8,
+    from: Reached,
     halted: bool,
-    limit: u64,
-    stack: &mut [u64; STACK_LIMIT],
-    calls: &mut [u64; CALL_LIMIT],
-    memory: &mut [u8; MEMORY_SIZE],
+    arrays: &mut Arrays,
     dumps: &mut [u8],
 ) -> Outcome
-    ensures { ExecuteParts image.now insts.now (T.records labels) count (of_parts regs flags stack.old calls.old memory.old halted) limit dumps.old result stack.new calls.new memory.new dumps.new }
+    ensures { ExecuteParts image.now insts.now (T.records labels) count (of_parts from.regs from.flags arrays.old.stack arrays.old.calls arrays.old.memory halted) from.left dumps.old result arrays.new.stack arrays.new.calls arrays.new.memory dumps.new }
 {
-    let mut at = Progress {
-        regs,
-        flags,
-        left: limit,
-        dumped: 0,
+    let mut cells = Dumps::new(dumps);
+    let mut at = from;
+    let code = match begin(image, insts, count, from, halted) {
+        Ok(code) => code,
+        Err(ending) => return cells.ends(at, ending),
     };
-    if let Some(ending) = ends_at_once(insts, count, regs, halted, limit) {
-        return at.ends(ending);
-    }
     // Nothing is known. Written out: a function that returns it costs a copy, and 12 KB more of stack.
     let mut known = Known {
         keys: [UNKNOWN; KNOWN_LIMIT],
@@ -172,17 +123,68 @@ pub fn execute_parts<T: LabelTable>(
     };
     let mut found = None;
     loop {
-        let stands = steps(
-            image, insts, count, at, found, stack, calls, memory, &mut known, dumps,
-        );
-        match stands {
+        match steps(code, &mut known, at, found, arrays, &mut cells) {
             ControlFlow::Continue(asking) => {
                 at = asking.at;
-                found = lookup(image, labels, count, asking.name.start, asking.name.len);
+                found = Some(lookup(code.image, labels, code.count, asking.name));
             }
             ControlFlow::Break(outcome) => return outcome,
         }
     }
+}
+
+// A machine's arrays.
+fn read_arrays(m: &Machine, arrays: &mut Arrays)
+    ensures { arrays.new ≡ record { stack = m.now.stack; calls = m.now.calls; memory = m.now.memory } }
+{
+    arrays.stack.copy_from_slice(&m.stack);
+    arrays.calls.copy_from_slice(&m.calls);
+    arrays.memory.copy_from_slice(&m.memory);
+}
+
+// The machine that a run leaves.
+fn write_outcome(outcome: Outcome, arrays: &Arrays, m: &mut Machine)
+    ensures { m.new ≡ of_parts outcome.at.regs outcome.at.flags arrays.now.stack arrays.now.calls arrays.now.memory (is_halted (ending_of outcome.ending)) }
+{
+    let Reached { regs, flags, .. } = outcome.at;
+    m.stack.copy_from_slice(&arrays.stack);
+    m.height = regs.height;
+    m.calls.copy_from_slice(&arrays.calls);
+    m.call_height = regs.call_height;
+    m.memory.copy_from_slice(&arrays.memory);
+    m.flags = flags;
+    m.ip = regs.ip;
+    m.halted = outcome.is_halted();
+}
+
+// The run over a machine that is lent. Its arrays are copied once in and once out: where they lie in it is C's, and a run lends
+// them as one.
+pub fn execute_in_place<T: LabelTable>(
+    image: &[u8],
+    insts: &[u8],
+    labels: T,
+    count: usize,
+    m: &mut Machine,
+    limit: u64,
+    dumps: &mut [u8],
+) -> Outcome
+    ensures { ExecuteInPlace image.now insts.now (T.records labels) count m.old limit dumps.old result m.new dumps.new }
+{
+    let arrays = &mut Arrays {
+        stack: [0; STACK_LIMIT],
+        calls: [0; CALL_LIMIT],
+        memory: [0; MEMORY_SIZE],
+    };
+    read_arrays(m, arrays);
+    let from = Reached {
+        regs: Registers::from(&*m),
+        left: limit,
+        flags: m.flags,
+    };
+    let halted = m.halted;
+    let outcome = execute_parts(image, insts, labels, count, from, halted, arrays, dumps);
+    write_outcome(outcome, arrays, m);
+    outcome
 }
 
 // The same over the machine by value.
@@ -197,22 +199,12 @@ pub fn execute_program<T: LabelTable>(
 ) -> Ran
     ensures { ExecuteRecords image.now insts.now (T.records labels) count m limit dumps.old result dumps.new }
 {
-    let mut stack = m.stack;
-    let mut calls = m.calls;
-    let mut memory = m.memory;
-    let outcome = execute_parts(
-        image,
-        insts,
-        labels,
-        count,
-        Registers::from(&m),
-        m.flags,
-        m.halted,
-        limit,
-        &mut stack,
-        &mut calls,
-        &mut memory,
-        dumps,
-    );
-    pack(stack, calls, memory, outcome, limit)
+    let mut machine = m;
+    let outcome = execute_in_place(image, insts, labels, count, &mut machine, limit, dumps);
+    Ran {
+        machine,
+        ending: outcome.ending,
+        steps: outcome.steps(limit),
+        dumped: outcome.dumped,
+    }
 }

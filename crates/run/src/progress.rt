@@ -4,42 +4,26 @@ ghost use Rattle.machine.specs.Ending.{ending_of};
 ghost use Rattle.run.specs.Turns.{is_halted};
 
 use machine::Ending;
-use step::Name;
+use quick::Reached;
 use step_core::Registers;
 
-// What changes beside the arrays: the machine's numbers, the steps that are left and the cells dumped so far.
-#[derive(Clone, Copy)]
-pub struct Progress {
-    pub regs: Registers,
-    pub flags: u8,
-    pub left: u64,
-    pub dumped: usize,
-}
-
-impl Progress {
-    // Behind a step that counts, which left these registers.
-    pub fn behind(self, regs: Registers) -> Progress
-        requires { 0 < self.left }
-        ensures { result ≡ record { regs = regs; flags = self.flags; left = self.left - 1; dumped = self.dumped } }
-    {
-        Progress {
-            regs,
-            left: self.left - 1,
-            ..self
-        }
-    }
-
-    pub fn ends(self, ending: Ending) -> Outcome
-        ensures { result ≡ record { at = self; ending = ending } }
-    {
-        Outcome { at: self, ending }
+// Behind a step that counts, which left these registers.
+pub fn behind(at: Reached, regs: Registers) -> Reached
+    requires { 0 < at.left }
+    ensures { result ≡ record { regs = regs; left = at.left - 1; flags = at.flags } }
+{
+    Reached {
+        regs,
+        left: at.left - 1,
+        ..at
     }
 }
 
-// A run that is over.
+// A run that is over: how far it has come, and the cells that it dumped.
 #[derive(Clone, Copy)]
 pub struct Outcome {
-    pub at: Progress,
+    pub at: Reached,
+    pub dumped: usize,
     pub ending: Ending,
 }
 
@@ -48,13 +32,20 @@ impl Outcome {
     pub fn is_halted(self) -> bool
         ensures { result ≡ is_halted (ending_of self.ending) }
     {
-        matches!(self.ending, Ending::Halted)
+        self.ending == Ending::Halted
+    }
+
+    // The steps that it took of as many as this. An outcome that no run with the limit left may have more left than that: none.
+    pub fn steps(self, limit: u64) -> u64
+        ensures { result ≡ limit - self.at.left }
+    {
+        limit.saturating_sub(self.at.left)
     }
 }
 
-// A run that goes on when a name was looked up.
+// A run that goes on when a name was looked up: this one.
 #[derive(Clone, Copy)]
-pub struct Asking {
-    pub at: Progress,
-    pub name: Name,
+pub struct Asking<'a> {
+    pub at: Reached,
+    pub name: &'a [u8],
 }

@@ -4,6 +4,7 @@
 
 use input::read_full;
 use loader::IMAGE_LIMIT;
+use transcript::{TEXT, run_image};
 
 // One byte more than an image may have: so many bytes are refused 1, as are more.
 const INPUT: usize = IMAGE_LIMIT + 1;
@@ -15,7 +16,7 @@ fn main(rt: HostRuntime) {
         let _ = rt.eprintln("runimage: standard input can't be read");
         return;
     };
-    let mut text = transcript::blank_text();
-    let size = transcript::run_image(&image[..n], &mut text);
+    let mut text = [0u8; TEXT];
+    let size = run_image(&image[..n], &mut text);
     let _ = rt.write_all(&text[..size]);
 }

@@ -1,5 +1,5 @@
 // F2I, F2U, I2F, I2U, U2I, U2F. Where the function is called with a literal kind, the compiler keeps only that
-// instruction's part. Only our own steps call it: it requires what a step has tested before.
+// instruction's part.
 #![tactic(auto)]
 
 ghost use Rattle.std.specs.Prelude.{◌≡◌, true, false, ◌*◌, ◌^◌, nat_abs};
@@ -7,12 +7,12 @@ ghost use Rattle.binary64.specs.Binary64 as binary64;
 ghost use Rattle.nan.specs.Cells as cells;
 ghost use Rattle.nan.specs.declared.CellType.TheVariants.{F64};
 ghost use Rattle.machine.specs.Step as definition;
-ghost use Rattle.step_core.specs.Parts.{Tested, OnStack};
+ghost use Rattle.step_core.specs.Parts.{OnStack};
 ghost use Rattle.step_convert.specs.Kinds.{conversion_of, converted};
 
 use machine::{STACK_LIMIT, Trap};
 use nan::CellType;
-use step_core::{Executed, Registers, onward, trap};
+use step_core::{Executed, Tested, onward, trap};
 
 #[derive(Clone, Copy, PartialEq, Eq)]
 pub enum Conversion {
@@ -24,6 +24,7 @@ pub enum Conversion {
     U2F,
 }
 
+#[tactic(auto, unfolding(crate::specs::Kinds::converted, machine::specs::Step::rule_of, machine::specs::Step::number_of), using(crate::proofs::Laws::is_minus, crate::proofs::Laws::not_minus))]
 impl Conversion {
     // What the conversion makes of an F64.
     fn of_float(self, cell: u64) -> Result<u64, Trap>
@@ -66,29 +67,29 @@ impl Conversion {
 }
 
 // I2F of a value that isn't below zero: the value is its magnitude, and a magnitude of 48 bits is not rounded.
+#[tactic(auto, using(nan::proofs::Laws::abs_value))]
 fn i2f(cell: u64) -> u64
     ensures rounds { result ≡ binary64.of_whole (nat_abs (cells.value cell)) }
     ensures exact { binary64.value result ≡ binary64.finite false (nat_abs (cells.value cell) * 2 ^ 1074) }
 {
-    float64::from_u64(cell % 0x1000000000000)
+    float64::from_u64(cell % nan::VALUES)
 }
 
 // The hint lets the compiler take F2I, the largest, into the quick loop: a call there costs every image.
 #[inline]
-pub fn convert(regs: Registers, stack: &mut [u64; STACK_LIMIT], k: Conversion) -> Executed
-    requires { Tested regs }
-    ensures { OnStack (definition.convert (conversion_of k)) regs stack.old result stack.new }
+pub fn convert(at: Tested, stack: &mut [u64; STACK_LIMIT], kind: Conversion) -> Executed
+    ensures { OnStack (definition.convert (conversion_of kind)) at.regs stack.old result stack.new }
 {
-    let height = regs.height;
+    let height = at.regs.height;
     if height == 0 {
-        return trap(regs, height, Trap::StackUnderflow);
+        return trap(at.regs, height, Trap::StackUnderflow);
     }
     let last = height - 1;
-    match k.of_cell(stack[last]) {
+    match kind.of_cell(stack[last]) {
         Ok(cell) => {
             stack[last] = cell;
-            onward(regs, height)
+            onward(at.regs, height)
         }
-        Err(t) => trap(regs, last, t),
+        Err(cause) => trap(at.regs, last, cause),
     }
 }

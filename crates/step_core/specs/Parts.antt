@@ -1,5 +1,5 @@
 -- How the parts that the code works on make up the definitions' machine, and its answers the definitions'. No behaviour is in it.
-use Rattle.std.specs.Prelude.{ℕ, ◌≤◌, ◌<◌, ◌+◌, ◌^◌, ◌≡◌, List, Bool, true, false, Result, Ok, Err}
+use Rattle.std.specs.Prelude.{ℕ, ◌≤◌, ◌≡◌, List, Bool, true, false, Result, Ok, Err}
 use Rattle.machine.specs.declared.Machine.{Machine}
 use Rattle.machine.specs.Limits.{stack_limit, call_limit}
 use Rattle.machine.specs.Lookup.{Found, ill_chain, no_label, leads_to}
@@ -36,10 +36,6 @@ means f Ill s ca me = ill
 -- heights within their limits, which every step keeps
 abbrev pub Inside : Registers → Type 0
 Inside c = (c.height ≤ stack_limit) × (height_of_calls c ≤ call_limit)
-
--- what was tested before an instruction is executed
-abbrev pub Tested : Registers → Type 0
-Tested c = (c.height ≤ stack_limit) × (height_of_calls c ≤ call_limit) × (c.ip + 1 < 2 ^ 64)
 
 -- where a run goes on, the heights are within their limits
 abbrev pub Small : Executed → Type 0

@@ -1,15 +1,17 @@
 // FADD, FSUB, FMUL, FDIV. Where the function is called with a literal kind, the compiler keeps only that instruction's
-// part. Only our own steps call it: it requires what a step has tested before.
+// part. Why the integer instructions aren't the same function is said there.
 #![tactic(auto)]
 
 ghost use Rattle.std.specs.Prelude.{◌≡◌};
 ghost use Rattle.machine.specs.Step as definition;
-ghost use Rattle.step_core.specs.Parts.{Tested, OnStack};
+ghost use Rattle.step_core.specs.Parts.{OnStack};
 ghost use Rattle.step_float.specs.Kinds.{float_of};
 
 use machine::{STACK_LIMIT, Trap};
-use step_core::{Executed, Registers, onward, trap};
+use step_core::{Executed, Tested, onward, trap};
 
+// An enum as the definition's. Were a function given, as to step_stack's `adjust`, the contract would be over what it answers,
+// and each of the eight calls would have to prove that this is what the definition computes: it is proved once, below.
 #[derive(Clone, Copy, PartialEq, Eq)]
 pub enum Float {
     FADD,
@@ -21,6 +23,7 @@ pub enum Float {
 impl Float {
     // NaN operands come first. Otherwise the compiler makes one 16 byte load of both operands, and it has to wait
     // for the two pushes to be written (3.6 instead of 1.6 ns a step).
+    #[tactic(auto, unfolding(machine::specs::Step::of_floats), using(crate::proofs::Laws::nan_left, crate::proofs::Laws::nan_right))]
     fn of_floats(self, a: u64, b: u64) -> u64
         ensures { result ≡ definition.of_floats (float_of self) a b }
     {
@@ -36,18 +39,17 @@ impl Float {
     }
 }
 
-pub fn float_step(regs: Registers, stack: &mut [u64; STACK_LIMIT], k: Float) -> Executed
-    requires { Tested regs }
-    ensures { OnStack (definition.float_step (float_of k)) regs stack.old result stack.new }
+pub fn float_step(at: Tested, stack: &mut [u64; STACK_LIMIT], kind: Float) -> Executed
+    ensures { OnStack (definition.float_step (float_of kind)) at.regs stack.old result stack.new }
 {
-    let height = regs.height;
+    let height = at.regs.height;
     if 2 <= height {
         let last = height - 1;
         let b = stack[last];
         let a = stack[last - 1];
-        stack[last - 1] = k.of_floats(a, b);
-        onward(regs, last)
+        stack[last - 1] = kind.of_floats(a, b);
+        onward(at.regs, last)
     } else {
-        trap(regs, height, Trap::StackUnderflow)
+        trap(at.regs, height, Trap::StackUnderflow)
     }
 }

@@ -1,51 +1,51 @@
 // CALL and RET.
 ghost use Rattle.machine.specs.Step as definition;
-ghost use Rattle.step_core.specs.Parts.{Tested, OnCalls, OnCalling, found_of};
+ghost use Rattle.step_core.specs.Parts.{OnCalls, OnCalling, found_of};
 
 use machine::{CALL_LIMIT, Trap};
-use step_core::{Executed, LookupError, Registers, moved};
+use step_core::{Executed, LookupError, Registers, Tested, moved};
 
-// 27 leaves the address stacked. With 23 there is no lookup, so `found` isn't looked at.
+// 27 leaves the address stacked and 34 changes nothing, so the two arms that stack it do so each. With 23 there is no
+// lookup, so `found` isn't looked at.
 pub fn call(
-    regs: Registers,
+    at: Tested,
     calls: &mut [u64; CALL_LIMIT],
     found: Result<usize, LookupError>,
 ) -> Executed
-    requires { Tested regs }
-    ensures { OnCalling (definition.call (found_of found)) regs calls.old result calls.new }
+    ensures { OnCalling (definition.call (found_of found)) at.regs calls.old result calls.new }
 {
-    let call_height = regs.call_height;
+    let call_height = at.regs.call_height;
     if CALL_LIMIT <= call_height {
-        return Executed::Trap(regs, Trap::CallStackFull);
+        return Executed::Trap(at.regs, Trap::CallStackFull);
     }
     let stacked = Registers {
         call_height: call_height + 1,
-        ..regs
+        ..at.regs
     };
     match found {
-        Ok(t) => {
-            calls[call_height] = (regs.ip + 1) as u64;
-            moved(stacked, t)
+        Ok(target) => {
+            calls[call_height] = (at.regs.ip + 1) as u64;
+            moved(stacked, target)
         }
         Err(LookupError::NoLabel) => {
-            calls[call_height] = (regs.ip + 1) as u64;
+            calls[call_height] = (at.regs.ip + 1) as u64;
             Executed::Trap(stacked, Trap::NoSuchFunction)
         }
         Err(LookupError::IllChain) => Executed::Ill,
     }
 }
 
-pub fn ret(regs: Registers, calls: &[u64; CALL_LIMIT]) -> Executed
-    requires { Tested regs }
-    ensures { OnCalls definition.ret regs calls.now result calls.now }
+pub fn ret(at: Tested, calls: &[u64; CALL_LIMIT]) -> Executed
+    ensures { OnCalls definition.ret at.regs calls.now result calls.now }
 {
-    if regs.call_height == 0 {
-        return Executed::Trap(regs, Trap::NoOpenCall);
+    let call_height = at.regs.call_height;
+    if call_height == 0 {
+        return Executed::Trap(at.regs, Trap::NoOpenCall);
     }
-    let top = regs.call_height - 1;
+    let top = call_height - 1;
     Executed::Next(Registers {
         ip: calls[top] as usize,
         call_height: top,
-        ..regs
+        ..at.regs
     })
 }

@@ -2,54 +2,46 @@
 ghost use Rattle.machine.specs.Step as definition;
 ghost use Rattle.flag.specs.Flags.{is_set};
 ghost use Rattle.flag.specs.Jumps.{jump_of};
-ghost use Rattle.step_core.specs.Parts.{Tested, OnRegisters, OnStack, found_of};
+ghost use Rattle.step_core.specs.Parts.{OnRegisters, OnStack, found_of};
 
 use flag::Flag;
 use machine::{STACK_LIMIT, Trap};
-use step_core::{Executed, LookupError, Registers, moved, trap};
+use step_core::{Executed, LookupError, Tested, moved, onward, trap};
 
-pub fn compare(regs: Registers, stack: &[u64; STACK_LIMIT]) -> Executed
-    requires { Tested regs }
-    ensures { OnStack definition.compare regs stack.now result stack.now }
+pub fn compare(at: Tested, stack: &[u64; STACK_LIMIT]) -> Executed
+    ensures { OnStack definition.compare at.regs stack.now result stack.now }
 {
-    let height = regs.height;
+    let height = at.regs.height;
     if height < 2 {
-        return trap(regs, height, Trap::StackUnderflow);
+        return trap(at.regs, height, Trap::StackUnderflow);
     }
     let last = height - 1;
     let b = nan::as_u64(stack[last]);
     let a = nan::as_u64(stack[last - 1]);
-    let after = Registers {
-        ip: regs.ip + 1,
-        height: last,
-        ..regs
-    };
-    Executed::Compared(after, flag::cmp(a, b))
+    Executed::Compared(at.next(last), flag::cmp(a, b))
 }
 
-pub fn jump(regs: Registers, found: Result<usize, LookupError>) -> Executed
-    requires { Tested regs }
-    ensures { OnRegisters (definition.jump (found_of found)) regs result }
+pub fn jump(at: Tested, found: Result<usize, LookupError>) -> Executed
+    ensures { OnRegisters (definition.jump (found_of found)) at.regs result }
 {
     match found {
-        Ok(t) => moved(regs, t),
-        Err(LookupError::NoLabel) => Executed::Trap(regs, Trap::NoSuchLabel),
+        Ok(target) => moved(at.regs, target),
+        Err(LookupError::NoLabel) => Executed::Trap(at.regs, Trap::NoSuchLabel),
         Err(LookupError::IllChain) => Executed::Ill,
     }
 }
 
 // The jump that tests the flag. The label is looked up before the flag: `found` comes first.
 pub fn jump_if(
-    regs: Registers,
+    at: Tested,
     flags: u8,
-    tested: Flag,
+    condition: Flag,
     found: Result<usize, LookupError>,
 ) -> Executed
-    requires { Tested regs }
-    ensures { OnRegisters (definition.jump_if (is_set flags (jump_of tested)) (found_of found)) regs result }
+    ensures { OnRegisters (definition.jump_if (is_set flags (jump_of condition)) (found_of found)) at.regs result }
 {
     match found {
-        Ok(_) if !flag::is_set(flags, tested) => moved(regs, regs.ip + 1),
-        _ => jump(regs, found),
+        Ok(_) if !flag::is_set(flags, condition) => onward(at.regs, at.regs.height),
+        _ => jump(at, found),
     }
 }

@@ -20,9 +20,7 @@ use Rattle.machine.specs.Step.{succeeds, trap, ◌must◌else◌then◌, is, typ
 use Rattle.machine.specs.declared.Trap.TheVariants.{NotBothI64, UnknownType}
 use Rattle.machine.specs.Traps.{trap_number}
 use Rattle.machine.specs.Change.{onward, top, popped, replaced}
-use Rattle.step_integer.specs.declared.Integer.{Integer as Kind}
-use Rattle.step_integer.specs.declared.Integer.TheVariants as kinds
-use Rattle.step_integer.specs.Kinds.{integer_of, type_trap}
+use Rattle.step_integer.specs.Kinds.{type_trap}
 use Rattle.machine.proofs.Tests.{passes, fails, not_both_i64}
 
 -- ---- I64 by the bits 48 to 62
@@ -66,13 +64,18 @@ module _ (c : ℕ) where
 
 -- ---- an I64 cell is known
 
+-- every type but Unknown is known
+pub known_but : (t : CellType) → (t ≡ Unknown → ⊥) → not (eqb (number_of t) (number_of Unknown)) ≡ true
+unfolding number_of
+known_but F64 h = refl
+known_but I64 h = refl
+known_but U64 h = refl
+known_but Ptr h = refl
+known_but Unknown h = absurd (h refl)
+
 known_of : (t : CellType) → eqb (number_of t) (number_of I64) ≡ true → not (eqb (number_of t) (number_of Unknown)) ≡ true
 unfolding number_of
-known_of F64 h = refl
-known_of I64 h = refl
-known_of U64 h = refl
-known_of Ptr h = refl
-known_of Unknown h = never h
+known_of t h = known_but t (λ e. never (rw e at h))
 
 known_both : (a b : ℕ) → (is I64 a && is I64 b) ≡ true → (type_known a && type_known b) ≡ true
 known_both a b h =
@@ -106,23 +109,6 @@ module _ (k : Integer) (m : Machine) where
 
       pub integer_does : divides k (top m) ≡ true → integer_step k m ≡ succeeds (onward (replaced (of_cells k (top (popped m)) (top m)) (popped m)))
       integer_does d = typed ∙ passes _ _ _ _ d
-
--- no other instruction than IDIV has a pair of cells without a result
-pub all_but : (k : Kind) (b : ℕ) → (k ≡ kinds.IDIV → ⊥) → divides (integer_of k) b ≡ true
-unfolding divides
-all_but kinds.IADD b h = refl
-all_but kinds.ISUB b h = refl
-all_but kinds.IMUL b h = refl
-all_but kinds.IDIV b h = absurd (h refl)
-
--- every type but Unknown is known
-pub known_but : (t : CellType) → (t ≡ Unknown → ⊥) → not (eqb (number_of t) (number_of Unknown)) ≡ true
-unfolding number_of
-known_but F64 h = refl
-known_but I64 h = refl
-known_but U64 h = refl
-known_but Ptr h = refl
-known_but Unknown h = absurd (h refl)
 
 -- IDIV's divisor
 pub divisor : (b : ℕ) → divides IDIV b ≡ true → 0 < b % 2 ^ 48

@@ -1,17 +1,20 @@
 // IADD, ISUB, IMUL, IDIV. Where the function is called with a literal kind, the compiler keeps only that instruction's
-// part. Only our own steps call it: it requires what a step has tested before.
+// part. The float instructions are a function of their own: these test types and IDIV its divisor, those the operands for
+// NaN, so that one function would take two closures, and its contract both families of definitions.
 #![tactic(auto)]
 
 ghost use Rattle.std.specs.Prelude.{◌≡◌, true};
 ghost use Rattle.nan.specs.declared.CellType.TheVariants.{I64};
 ghost use Rattle.machine.specs.Step as definition;
-ghost use Rattle.step_core.specs.Parts.{Tested, OnStack};
+ghost use Rattle.step_core.specs.Parts.{OnStack};
 ghost use Rattle.step_integer.specs.Kinds.{integer_of, type_trap};
 
 use machine::{STACK_LIMIT, Trap};
 use nan::CellType;
-use step_core::{Executed, Registers, onward, trap};
+use step_core::{Executed, Tested, onward, trap};
 
+// An enum as the definition's, and no function given, for the reason beside step_float's `Float`; besides, only IDIV tests
+// its divisor.
 #[derive(Clone, Copy, PartialEq, Eq)]
 pub enum Integer {
     IADD,
@@ -20,13 +23,14 @@ pub enum Integer {
     IDIV,
 }
 
+#[tactic(auto, unfolding(machine::specs::Step::divides, machine::specs::Step::of_cells), using(nan::proofs::Laws::abs_value, crate::proofs::Laws::divisor))]
 impl Integer {
     // Only IDIV by zero has no result.
     fn divides(self, b: u64) -> bool
         ensures { result ≡ definition.divides (integer_of self) b }
     {
         match self {
-            Integer::IDIV => b % 0x1000000000000 != 0,
+            Integer::IDIV => b % nan::VALUES != 0,
             _ => true,
         }
     }
@@ -45,19 +49,22 @@ impl Integer {
 }
 
 // Whether a cell is an I64: all exponent bits, and 2 in bits 48 to 51. One test in place of get_type's two.
+#[tactic(auto, using(crate::proofs::Laws::is_i64_lem))]
 fn is_i64(cell: u64) -> bool
     ensures { result ≡ definition.is I64 cell }
 {
-    cell / 0x1000000000000 % 0x8000 == 0x7FF2
+    cell / nan::VALUES % 0x8000 == 0x7FF2
 }
 
+#[tactic(auto, unfolding(machine::specs::Step::number_of), using(crate::proofs::Laws::known_but))]
 fn type_known(cell: u64) -> bool
     ensures { result ≡ definition.type_known cell }
 {
-    !matches!(nan::get_type(cell), CellType::Unknown)
+    nan::get_type(cell) != CellType::Unknown
 }
 
 // The trap of two operands that aren't both I64.
+#[tactic(auto, unfolding(crate::specs::Kinds::type_trap))]
 fn type_trap(a: u64, b: u64) -> Trap
     ensures { result ≡ type_trap a b }
 {
@@ -69,23 +76,22 @@ fn type_trap(a: u64, b: u64) -> Trap
 }
 
 // As an I64 cell is known, the test for both comes before 31.
-pub fn integer_step(regs: Registers, stack: &mut [u64; STACK_LIMIT], k: Integer) -> Executed
-    requires { Tested regs }
-    ensures { OnStack (definition.integer_step (integer_of k)) regs stack.old result stack.new }
+pub fn integer_step(at: Tested, stack: &mut [u64; STACK_LIMIT], kind: Integer) -> Executed
+    ensures { OnStack (definition.integer_step (integer_of kind)) at.regs stack.old result stack.new }
 {
-    let height = regs.height;
+    let height = at.regs.height;
     if height < 2 {
-        return trap(regs, height, Trap::StackUnderflow);
+        return trap(at.regs, height, Trap::StackUnderflow);
     }
     let last = height - 1;
     let b = stack[last];
     let a = stack[last - 1];
     if !is_i64(a) || !is_i64(b) {
-        return trap(regs, last, type_trap(a, b));
+        return trap(at.regs, last, type_trap(a, b));
     }
-    if !k.divides(b) {
-        return trap(regs, last, Trap::DivisionByZero);
+    if !kind.divides(b) {
+        return trap(at.regs, last, Trap::DivisionByZero);
     }
-    stack[last - 1] = k.of_cells(a, b);
-    onward(regs, last)
+    stack[last - 1] = kind.of_cells(a, b);
+    onward(at.regs, last)
 }

@@ -6,6 +6,8 @@ ghost use Rattle.tables.specs.Tables.{labels_of};
 use crate::{RECORD, record_at};
 use machine::Label;
 
+// Reading alone, by a Copy value that a run takes as it is. The loader writes labels through a trait of its own, since no Copy
+// value could be written to.
 pub trait LabelTable: Copy {
     // The records that it holds, in order.
     ghost records: { Self → List Label };

@@ -1,5 +1,6 @@
 // Lent tables: a byte slice as a list of records, four numbers a record, eight bytes a number with the lowest first.
-// Reading and writing one number or record. These functions have a `requires`: only our own crates call them.
+// Reading and writing one number or record. These functions and Code's methods have a `requires`, that the number or record is in
+// the slice: a function for any index would have to answer for a record that isn't there.
 #![tactic(auto)]
 
 ghost use Rattle.std.specs.Prelude.{◌≡◌, refl, ℕ, List, [], ◌∷◌, ◌+◌, ◌*◌, ◌≤◌, length, get_or, slice_index};
@@ -9,8 +10,10 @@ ghost use Rattle.machine.specs.declared.Label.{Label};
 ghost use Rattle.tables.specs.Tables.{number_at, numbers_in, records_of, bytes_of, inst, label, inst_numbers, label_numbers};
 ghost use Rattle.word.specs.Words.{eight_of};
 
+mod code;
 pub mod labels;
 
+pub use code::Code;
 use inst::Inst;
 use machine::Label;
 use word::{put_word, word_at};
@@ -36,15 +39,15 @@ pub fn put_number(bytes: &mut [u8], n: usize, v: u64)
     put_word(bytes, n * NUMBER, v);
 }
 
-// A record: four numbers, and back.
+// A record: four numbers, and back. It is no From both ways: that they give each other back is a law of this trait.
 pub trait Record {
     // The record of four numbers, and the numbers of a record.
     ghost of_numbers: { ℕ → ℕ → ℕ → ℕ → Self };
 
     ghost numbers: { Self → List ℕ };
 
-    fn from_numbers(a: u64, b: u64, c: u64, d: u64) -> Self
-        ensures { result ≡ of_numbers a b c d };
+    fn from_numbers(four: [u64; 4]) -> Self
+        ensures { result ≡ of_numbers (slice_index four 0) (slice_index four 1) (slice_index four 2) (slice_index four 3) };
 
     fn to_numbers(self) -> [u64; 4]
         ensures { result ≡ numbers self };
@@ -63,12 +66,12 @@ impl Record for Inst {
 
     ghost forth = { λ r. refl };
 
-    fn from_numbers(a: u64, b: u64, c: u64, d: u64) -> Inst {
+    fn from_numbers([typ, val, start, len]: [u64; 4]) -> Inst {
         Inst {
-            typ: a,
-            val: b,
-            start: c,
-            len: d,
+            typ,
+            val,
+            start,
+            len,
         }
     }
 
@@ -86,12 +89,12 @@ impl Record for Label {
 
     ghost forth = { λ r. refl };
 
-    fn from_numbers(a: u64, b: u64, c: u64, d: u64) -> Label {
+    fn from_numbers([start, len, target, next]: [u64; 4]) -> Label {
         Label {
-            start: a,
-            len: b,
-            target: c,
-            next: d,
+            start,
+            len,
+            target,
+            next,
         }
     }
 
@@ -106,12 +109,12 @@ pub fn record_at<R: Record>(table: &[u8], i: usize) -> R
     ensures { (d : R) → result ≡ get_or (records_of R.of_numbers (numbers_in table.now)) i d }
 {
     let n = i * 4;
-    R::from_numbers(
+    R::from_numbers([
         number_at(table, n),
         number_at(table, n + 1),
         number_at(table, n + 2),
         number_at(table, n + 3),
-    )
+    ])
 }
 
 // A record as record i of a table.

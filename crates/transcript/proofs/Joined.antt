@@ -7,6 +7,7 @@ use native.Mathlib.Nat.{zero-add, suc-add, sub-zero, suc-sub-suc}
 use native.Mathlib.Omega.{arith}
 use lib.Dec.{eqb, ltb}
 use lib.ListN.{length, length-append}
+use Rattle.std.proofs.lemmas.Bool.{false_from_ne_true}
 use borrow.Author.Tests.{eqb-true, eqb-false, ne_eqb, ltb-true, ltb-false}
 use Rattle.inst.proofs.Laws.{never, and_right}
 use Rattle.machine.specs.declared.Machine.{Machine}
@@ -21,10 +22,6 @@ use Rattle.transcript.specs.Theorems.{BufferUnseen}
 pub by_bool : (P : Bool → Type 0) (b : Bool) → (b ≡ true → P true) → (b ≡ false → P false) → P b
 by_bool P true f g = f refl
 by_bool P false f g = g refl
-
-not_true : (b : Bool) → (b ≡ true → ⊥) → b ≡ false
-not_true true f = absurd (f refl)
-not_true false f = refl
 
 -- one step more before the first of two runs
 continued_after : (rest : ℕ → Machine → Course) (limit : ℕ) (cells : List ℕ) (r : Course) (b : Bool)
@@ -125,7 +122,7 @@ module _ (p : Program) where
   enough limit room m h =
       let f = fronts p (room - limit) limit limit m in
       let e : limit + (room - limit) ≡ room = omega arith in
-      let n : is_full (course p limit limit m).ending ≡ false = not_true _ (λ t. omega (arith, (f.full t).0, (f.full t).1, f.fewer)) in
+      let n : is_full (course p limit limit m).ending ≡ false = false_from_ne_true _ (λ t. omega (arith, (f.full t).0, (f.full t).1, f.fewer)) in
       rw (← e) (f.whole ∙ rw n)
 
   -- one run with room for every cell is a run with less, continued after 33

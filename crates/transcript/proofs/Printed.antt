@@ -1,11 +1,10 @@
 -- What is printed fits the text. Assumes nothing.
 use Prim.Native.Nat.{ℕ, ◌≤◌}
-use mathlib.Core.Path.{◌≡◌, ap}
+use mathlib.Core.Path.{◌≡◌}
 use mathlib.Core.List.{List}
 use native.Mathlib.Omega.{arith}
 use lib.Dec.{lit<}
-use lib.ListN.{length, length-append, length-replicate}
-use lib.Seq.{length-sets}
+use lib.ListN.{length, length-append}
 use Rattle.inst.specs.declared.Inst.{Inst}
 use Rattle.machine.specs.declared.Machine.{Machine}
 use Rattle.machine.specs.declared.Label.{Label}
@@ -16,7 +15,7 @@ use Rattle.machine.specs.Run.{Course, course}
 use Rattle.machine.specs.Statements.{loaded_program}
 use Rattle.report.specs.Text.{Put}
 use Rattle.report.proofs.Laws.{length_lines, end_line_short, refused_line_short}
-use Rattle.transcript.specs.Transcript.{in_all, report, steps_in_all, dump_room, text_size, blank_text, printed_of, printed}
+use Rattle.transcript.specs.Transcript.{in_all, report, steps_in_all, dump_room, text_size, printed_of, printed}
 use Rattle.transcript.proofs.Joined.{fronts, buffer_unseen}
 
 report_short : (p : Program) (m : Machine) → length (report (in_all steps_in_all p dump_room steps_in_all m)) ≤ text_size
@@ -36,8 +35,6 @@ printed_short : (image : List ℕ) → length (printed image) ≤ text_size
 unfolding printed
 printed_short image = printed_of_short image _ _ _
 
--- what was put into a blank text lies in it
-pub put_fits : (image : List ℕ) {t t' : List ℕ} {n : ℕ} → t ≡ blank_text → Put t 0 (printed image) t' n → n ≤ length t'
-unfolding blank_text
-put_fits image {t} b p =
-    omega (arith, ap length b, length-replicate {A = ℕ} text_size 0, p.next_is, printed_short image, ap length p.text_is, length-sets t 0 (printed image))
+-- what was put into a text lies in it
+pub put_fits : (image : List ℕ) {t t' : List ℕ} {n : ℕ} → length t' ≡ text_size → Put t 0 (printed image) t' n → n ≤ length t'
+put_fits image long p = omega (arith, p.next_is, printed_short image)

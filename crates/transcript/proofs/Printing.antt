@@ -1,8 +1,8 @@
 -- The runs of an image, printed one behind the other. Assumes nothing.
-use Prim.Native.Nat.{ℕ, ◌+◌, ◌-◌, ◌/◌, ◌≤◌, ◌<◌}
+use Prim.Native.Nat.{ℕ, zero, suc, ◌+◌, ◌*◌, ◌-◌, ◌/◌, ◌≤◌, ◌<◌}
 use mathlib.Core.Path.{◌≡◌, refl, ap, ◌∙◌, sym}
 use mathlib.Core.Bool.{Bool, true, false}
-use mathlib.Core.List.{List, [], ◌++◌, append_assoc}
+use mathlib.Core.List.{List, [], ◌∷◌, ◌++◌, append_assoc}
 use native.Mathlib.Nat.{zero-add, add_assoc, sub-add-eq}
 use native.Mathlib.Omega.{arith}
 use lib.Dec.{lit<}
@@ -14,6 +14,7 @@ use Rattle.machine.specs.Change.{height_of_calls}
 use Rattle.machine.specs.Lookup.{Program}
 use Rattle.machine.specs.Run.{Course, course, Result, reported, run}
 use Rattle.machine.proofs.Histories.{front}
+use Rattle.word.specs.Words.{number_of}
 use Rattle.tables.specs.Tables.{numbers_in, bytes_of}
 use Rattle.tables.proofs.Bytes.{length_numbers_in}
 use Rattle.run.specs.Runs.{run_bytes}
@@ -29,6 +30,23 @@ sixty_four b e = let l = length_numbers_in b in omega arith
 pub same_bytes : (p : Program) (limit : ℕ) (b : List ℕ) (m : Machine) (x : Result) → x ≡ run_bytes p limit b m → length x.buffer ≡ length b
 unfolding run_bytes
 same_bytes p limit b m x e = ap (λ (y : Result). length y.buffer) e ∙ length-sets b 0 (bytes_of (course p limit (length b / 8) m).cells)
+
+-- the cells of a buffer's front
+eighth : (n : ℕ) → suc n * 8 ≡ suc (suc (suc (suc (suc (suc (suc (suc (n * 8))))))))
+eighth n = omega arith
+
+pub front_numbers : (n : ℕ) (b : List ℕ) → n * 8 ≤ length b → numbers_in (take (n * 8) b) ≡ take n (numbers_in b)
+unfolding numbers_in
+front_numbers zero b l = refl
+front_numbers (suc n) [] l = absurd (omega arith)
+front_numbers (suc n) (x ∷ []) l = absurd (omega arith)
+front_numbers (suc n) (x ∷ y ∷ []) l = absurd (omega arith)
+front_numbers (suc n) (x ∷ y ∷ z ∷ []) l = absurd (omega arith)
+front_numbers (suc n) (x ∷ y ∷ z ∷ u ∷ []) l = absurd (omega arith)
+front_numbers (suc n) (x ∷ y ∷ z ∷ u ∷ v ∷ []) l = absurd (omega arith)
+front_numbers (suc n) (x ∷ y ∷ z ∷ u ∷ v ∷ w ∷ []) l = absurd (omega arith)
+front_numbers (suc n) (x ∷ y ∷ z ∷ u ∷ v ∷ w ∷ q ∷ []) l = absurd (omega arith)
+front_numbers (suc n) (x ∷ y ∷ z ∷ u ∷ v ∷ w ∷ q ∷ r ∷ b) l = simp eighth (ap (λ ns. number_of x y z u v w q r ∷ ns) (front_numbers n b (omega arith)))
 
 -- three runs joined
 continued_joined : (rest : ℕ → Machine → Course) (limit : ℕ) (r s : Course) (b : Bool)

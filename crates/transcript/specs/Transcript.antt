@@ -53,12 +53,9 @@ empty_insts = replicate (inst_limit * 32) 0
 abbrev pub empty_labels : List ℕ
 empty_labels = replicate (label_records * 32) 0
 
--- a text of its own: room for a line of each cell and for the last line, all 0
+-- a text's room: a line of each cell and the last line
 abbrev pub text_size : ℕ
 text_size = 170131
-
-unfoldable pub blank_text : List ℕ
-blank_text = replicate text_size 0
 
 -- a refused load prints `refused` and its number
 unfoldable pub printed_of : List ℕ → List Inst → List Label → Load → List ℕ

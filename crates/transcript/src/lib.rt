@@ -5,13 +5,14 @@ ghost use Rattle.std.specs.Prelude.{◌≡◌};
 ghost use Rattle.machine.specs.Ending.{ending_of};
 ghost use Rattle.tables.specs.Tables.{program};
 ghost use Rattle.report.specs.Text.{Put, refused_line};
-ghost use Rattle.transcript.specs.Transcript.{is_full, in_all, report, steps_in_all, dump_room, blank_text, printed};
+ghost use Rattle.transcript.specs.Transcript.{is_full, in_all, report, steps_in_all, dump_room, printed};
 ghost use Rattle.transcript.specs.Theorems.{BufferUnseen};
 
 use loader::{INST_BYTES, LABEL_BYTES, fresh, from_binary};
 use machine::{Ending, Machine};
 use report::Output;
 use run::execute_program;
+use tables::NUMBER;
 
 // The steps in all, and the bytes of a text that has room for as many lines of a cell and the last line.
 pub const STEPS: u64 = 10000;
@@ -19,7 +20,7 @@ pub const STEPS: u64 = 10000;
 pub const TEXT: usize = 170131;
 
 // The bytes of the dump buffer, 64 cells.
-const ROOM: usize = 512;
+const ROOM: usize = 64 * NUMBER;
 
 // No code: its contract states the theorem on the definitions.
 pub fn transcript_theorems()
@@ -29,10 +30,11 @@ pub fn transcript_theorems()
 fn is_full(ending: Ending) -> bool
     ensures { result ≡ is_full (ending_of ending) }
 {
-    matches!(ending, Ending::BufferFull)
+    ending == Ending::BufferFull
 }
 
 // Prints the runs from m on, one behind the other, until one ends otherwise than with a full buffer. Each is lent the buffer empty.
+// Image, tables and count stand beside one another as execute_program takes them, whose comment says why.
 fn print_runs(
     image: &[u8],
     insts: &[u8],
@@ -57,17 +59,11 @@ fn print_runs(
             STEPS - steps,
             &mut dumps,
         );
-        out.cell_lines(&dumps, ran.dumped);
+        out.cell_lines(&dumps[..ran.dumped * NUMBER]);
         steps += ran.steps;
         machine = ran.machine;
         if !is_full(ran.ending) {
-            out.end_line(
-                ran.ending,
-                steps,
-                machine.ip as u64,
-                machine.height as u64,
-                machine.call_height as u64,
-            );
+            out.end_line(ran.ending, steps, &machine);
             return out.len();
         }
     }
@@ -81,14 +77,6 @@ fn print_refused(text: &mut [u8; TEXT], number: u8) -> usize
     out.len()
 }
 
-// A text to lend.
-#[tactic(auto, unfolding(crate::specs::Transcript::blank_text))]
-pub fn blank_text() -> [u8; TEXT]
-    ensures { result ≡ blank_text }
-{
-    [0; TEXT]
-}
-
 // What is printed of an image, from the text's front on, and how many bytes it is.
 pub fn run_image(image: &[u8], text: &mut [u8; TEXT]) -> usize
     ensures { Put text.old 0 (printed image.now) text.new result }
@@ -96,7 +84,7 @@ pub fn run_image(image: &[u8], text: &mut [u8; TEXT]) -> usize
     let mut insts = [0u8; INST_BYTES];
     let mut labels = [0u8; LABEL_BYTES];
     match from_binary(image, &mut insts, &mut labels) {
-        Err(refusal) => print_refused(text, refusal.number()),
+        Err(refusal) => print_refused(text, u8::from(refusal)),
         Ok(accepted) => print_runs(
             image,
             &insts,

@@ -1,11 +1,13 @@
-// A number in memory: eight bytes, the lowest first, read and written. What does has a `requires`: only our own crates call it.
+// A number in memory: eight bytes, the lowest first, read and written. Both have a `requires`: for a place that isn't there an
+// answer would have to be made up.
 #![tactic(auto)]
 
 ghost use Rattle.std.specs.Prelude.{◌≡◌, ◌+◌, ◌≤◌, length};
 ghost use Rattle.std.proofs.lemmas.List.Edits.{sets};
 ghost use Rattle.word.specs.Words.{word, eight_of};
 
-// The number of the eight bytes from `at` on: one load, once compiled.
+// The number of the eight bytes from `at` on: one load, once compiled. By a copy, since `first_chunk` tests again, at each number,
+// that the bytes are there.
 pub fn word_at(bytes: &[u8], at: usize) -> u64
     requires { at + 8 ≤ length bytes.now }
     ensures { result ≡ word bytes.now at }

@@ -4,4 +4,4 @@ use Rattle.encoder.proofs.Records.{Stored}
 use Rattle.encoder.proofs.write.Given as goal
 
 abbrev pub invariant-loop-i : goal.invariant-loop-i
-invariant-loop-i l = Stored l.image (insts_of l.insts) l.count l.initial.out l.out l.at l.i
+invariant-loop-i l = Stored l.code.image.now (insts_of l.code.insts.now) l.code.count l.initial.out l.out l.at l.i

@@ -5,4 +5,4 @@ use Rattle.label_run.proofs.mm_run_in_place.Goals as goal
 
 pub returns : goal.returns
 unfolding run_call
-returns c = in_place _ _ _ _ c.execute_program-r.ensures c.from.ensures
+returns c = rw (c.new.ensures, c.steps.ensures) (in_place _ _ _ _ _ _ c.execute_in_place-outcome.ensures.gives)

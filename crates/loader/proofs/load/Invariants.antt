@@ -6,4 +6,4 @@ abbrev pub invariant-loop-next : goal.invariant-loop-next
 invariant-loop-next g l = Underway l.image l.fn.insts g.S.LabelSlot.records g.S.LabelSlot.slots l.initial.labels l.next l.labels
 
 abbrev pub decreases-loop-next : goal.decreases-loop-next
-decreases-loop-next g l = left l.next
+decreases-loop-next g l = left l.checked.accepted.count l.next

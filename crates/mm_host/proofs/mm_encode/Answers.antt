@@ -4,4 +4,4 @@ use Rattle.mm_host.proofs.mm_encode.Goals as goal
 
 pub returns : goal.returns
 unfolding encode_call
-returns c = let e = c.to_binary.ensures in rw (c.encoded_numbers.ensures, e.result_value, e.out_after)
+returns c = let e = c.to_binary.ensures in rw (c.from.ensures, e.result_value, e.out_after)

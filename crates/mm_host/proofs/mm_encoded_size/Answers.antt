@@ -4,4 +4,4 @@ use Rattle.mm_host.proofs.mm_encoded_size.Goals as goal
 
 pub returns : goal.returns
 unfolding size_call
-returns c = rw (c.encoded_numbers.ensures, c.encoded_size.ensures)
+returns c = rw (c.from.ensures, c.encoded_size.ensures)

@@ -1,17 +1,21 @@
 -- `quick::run_known` meets its contract. Assumes nothing.
-use mathlib.Core.Path.{refl}
-use borrow.Author.Rules.{rules}
-use Rattle.quick.proofs.Steps.{begun, success_on, stopped_at}
+use mathlib.Core.Path.{refl, sym, ◌∙◌}
+use native.Mathlib.Omega.{arith}
+use Rattle.quick.proofs.Steps.{begun, success_on, stopped_at, key_is, target_is}
 use Rattle.quick.proofs.run_known.Goals as goal
 
-pub loop-left-init : goal.loop-left-init
-loop-left-init c = begun _ _ _ _ _ _ _ _ (search rules)
+pub loop-reached-init : goal.loop-reached-init
+loop-reached-init c = begun _ _ _ _ _ _ _ _ c.requires.0
 
 pub execute_known-answer-requires : goal.execute_known-answer-requires
-execute_known-answer-requires c = (c.loop-left.invariant.small, search rules, rw c.key-key.ensures (c.requires.1 _ c.if-ip-ge-KNOWN_LIMIT.false))
+execute_known-answer-requires c =
+    let key = c.from-key.ensures ∙ c.key.ensures ∙ key_is c.in-Some.ensures in
+    λ u. c.requires.1 _ (omega (arith, c.in-Some.entry.inside, c.in-Some.ensures.1)) (λ e. u (key ∙ e))
 
-pub loop-left-preserved : goal.loop-left-preserved
-loop-left-preserved c = success_on _ _ _ _ _ _ _ _ _ _ c.loop-left.invariant c.loop-left-test.true c.if-ip-ge-KNOWN_LIMIT.false _ _ _ _ _ (λ found start len finds. rw (c.in-Some.is, c.key-key.ensures) at (c.execute_known-answer.ensures found start len (rw c.key-key.ensures finds)))
+pub loop-reached-preserved : goal.loop-reached-preserved
+loop-reached-preserved c =
+    let key = c.from-key.ensures ∙ c.key.ensures ∙ key_is c.in-Some.ensures in
+    success_on _ _ _ _ _ _ _ _ _ _ c.loop-reached.invariant c.loop-reached-test.true (omega (arith, c.in-Some.entry.inside, c.in-Some.ensures.1)) _ _ _ _ _ (λ found start len finds. rw (sym c.success.ensures ∙ c.in-Some-success.is, key) at (c.execute_known-answer.ensures found start len (rw (key, target_is c.in-Some.ensures) finds)))
 
-pub returns-in-None : goal.returns-in-None
-returns-in-None c = stopped_at _ _ _ _ _ _ _ _ _ _ c.loop-left.invariant _ _ _ (rw c.in-None.is at (c.execute_known-answer.ensures _ 0 0 (λ _. refl))).holds
+pub returns-in_default-success : goal.returns-in_default-success
+returns-in_default-success c = stopped_at _ _ _ _ _ _ _ _ _ _ c.loop-reached.invariant _ _ _ (rw (sym c.success.ensures ∙ c.in_default-success.is) at (c.execute_known-answer.ensures _ 0 0 (λ _. refl))).holds

@@ -4,9 +4,9 @@ use Rattle.step_core.specs.Parts.{of_parts}
 use Rattle.quick.specs.Courses.{Leads}
 use Rattle.quick.proofs.run_known.Given as goal
 
-abbrev pub invariant-loop-left : goal.invariant-loop-left
-invariant-loop-left l =
-    Leads l.insts l.known (of_parts l.initial.regs l.f l.initial.stack l.initial.calls l.initial.memory false) l.steps (record { regs = l.regs; left = l.left; flags = l.flags }) l.stack l.calls l.memory
+abbrev pub invariant-loop-reached : goal.invariant-loop-reached
+invariant-loop-reached l =
+    Leads l.code.insts.now l.known (of_parts l.fn.from.regs l.fn.from.flags l.initial.arrays.stack l.initial.arrays.calls l.initial.arrays.memory false) l.fn.from.left l.reached l.arrays.stack l.arrays.calls l.arrays.memory
 
-abbrev pub decreases-loop-left : goal.decreases-loop-left
-decreases-loop-left l = l.left
+abbrev pub decreases-loop-reached : goal.decreases-loop-reached
+decreases-loop-reached l = l.reached.left

@@ -3,4 +3,4 @@ use Rattle.digests.proofs.Replaying.{replay_most}
 use Rattle.replay.proofs.replay_record.Goals as goal
 
 pub returns : goal.returns
-returns c = replay_most _ _ _ _ _ _ _ _ c.replay_image.ensures
+returns c = replay_most c.replay_image.ensures

@@ -1,9 +1,5 @@
 -- `run::execute_program` meets its contract. Assumes nothing.
-use Rattle.run.proofs.Edges.{within}
 use Rattle.run.proofs.execute_program.Goals as goal
 
-pub pack-requires : goal.pack-requires
-pack-requires g c = within c.execute_parts-outcome.ensures
-
 pub returns : goal.returns
-returns g c = rw c.pack.ensures (rw c.from.ensures at c.execute_parts-outcome.ensures.gives)
+returns g c = rw c.steps.ensures c.execute_in_place-outcome.ensures.gives

@@ -1,12 +1,14 @@
 -- `run::steps` meets its contract. Assumes nothing.
-use Rattle.step.specs.Steps.{arrays}
+use mathlib.Core.Path.{◌≡◌}
+use Rattle.step.specs.Steps.{lent}
 use Rattle.run.proofs.Loop.{Loops}
 use Rattle.run.proofs.steps.Given as goal
 
 abbrev pub invariant-loop-at : goal.invariant-loop-at
 invariant-loop-at l =
-    Loops l.image l.insts l.count l.fn.from l.fn.asked l.initial.dumps (arrays l.initial.known l.initial.stack l.initial.calls l.initial.memory)
-    l.at l.found l.dumps (arrays l.known l.stack l.calls l.memory)
+    Loops l.code.image.now l.code.insts.now l.code.count l.fn.from l.fn.asked l.initial.dumps.filled l.initial.dumps.buffer.now (lent l.initial.known l.initial.arrays)
+    l.at l.found l.dumps.filled l.dumps.buffer.now (lent l.known l.arrays)
+    × (l.dumps.buffer.ghost_name ≡ l.initial.dumps.buffer.ghost_name)
 
 abbrev pub decreases-loop-at : goal.decreases-loop-at
 decreases-loop-at l = l.at.left

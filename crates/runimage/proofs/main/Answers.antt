@@ -4,8 +4,8 @@ use Rattle.transcript.proofs.Printed.{put_fits}
 use Rattle.runimage.proofs.main.Goals as goal
 
 pub slice_bounds-text-end : goal.slice_bounds-text-end
-slice_bounds-text-end c = put_fits _ c.blank_text-text.ensures c.run_image-size.ensures
+slice_bounds-text-end c = put_fits _ c.run_image-size.array_long c.run_image-size.ensures
 
 pub slice_bounds-write_all-end : goal.slice_bounds-write_all-end
 slice_bounds-write_all-end c =
-    sym (length-take-le _ _ (put_fits _ c.blank_text-text.ensures c.run_image-size.ensures))
+    sym (length-take-le _ _ (put_fits _ c.run_image-size.array_long c.run_image-size.ensures))

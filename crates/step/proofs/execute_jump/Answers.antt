@@ -14,9 +14,9 @@ returns-then-op-eq-CALL c v start len s me =
 pub returns-in-Some : goal.returns-in-Some
 unfolding exec
 returns-in-Some c v start len s me =
-    as_is (acted _ _ (c.jump_if.ensures s c.args.calls.now me)) (rw (← c.in-Some.ensures, jcc_at c.in-Some.tested) refl)
+    as_is (acted _ _ (c.jump_if.ensures s c.args.calls.now me)) (rw (← c.in-Some.ensures, jcc_at c.in-Some.condition) refl)
 
 pub returns-in-None : goal.returns-in-None
 unfolding exec op_of
 returns-in-None c v start len s me =
-    as_is (acted _ _ (c.jump.ensures s c.args.calls.now me)) (rw (jmp_is _ c.requires.1 c.if-op-eq-CALL.false c.in-None.ensures) refl)
+    as_is (acted _ _ (c.jump.ensures s c.args.calls.now me)) (rw (jmp_is _ c.requires c.if-op-eq-CALL.false c.in-None.ensures) refl)

@@ -21,7 +21,7 @@ pub returns-then-not-is_i64 : goal.returns-then-not-is_i64
 unfolding moved with_stack
 returns-then-not-is_i64 c ca me =
     let stack = c.args.stack.now in
-    let last = c.args.regs.height - 1 in
+    let last = c.args.at.regs.height - 1 in
     let other : (is I64 (get_or stack (last - 1) 0) && is I64 (get_or stack last 0)) ≡ false =
     elim c.then-not-is_i64.branch [
       | then-not-is_i64-via-then-not-is_i64 w ↦ simp (← c.is_i64.ensures, w.if-not-is_i64.true)

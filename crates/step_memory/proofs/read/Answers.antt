@@ -11,10 +11,13 @@ pub returns-then-height-eq0 : goal.returns-then-height-eq0
 unfolding read ◌must◌else◌then◌ moved with_stack
 returns-then-height-eq0 c ca = trapped c.trap.ensures (λ f. simp c.if-height-eq0.true)
 
-pub returns-then-at-ge-MEMORY_SIZE : goal.returns-then-at-ge-MEMORY_SIZE
+pub returns-in_default : goal.returns-in_default
 unfolding read ◌must◌else◌then◌ moved with_stack
-returns-then-at-ge-MEMORY_SIZE c ca = trapped c.trap-then-at-ge-MEMORY_SIZE.ensures (λ f. simp (lt-ltb 0 c.args.regs.height (omega (arith, c.if-height-eq0.false)), ← c.as_u64-at.ensures, le-ltb _ _ c.if-at-ge-MEMORY_SIZE.true))
+returns-in_default c ca =
+    trapped c.trap-in_default.ensures (λ f. simp (lt-ltb 0 c.args.at.regs.height (omega (arith, c.if-height-eq0.false)), ← c.as_u64.ensures, le-ltb _ _ (rw c.told-memory at c.in_default.ensures.lookup.3)))
 
 pub returns : goal.returns
 unfolding read ◌must◌else◌then◌ moved with_stack
-returns c ca = success c.onward.ensures (λ f. simp (lt-ltb 0 c.args.regs.height (omega (arith, c.if-height-eq0.false)), ← c.as_u64-at.ensures, lt-ltb _ _ c.if-at-ge-MEMORY_SIZE.false, c.from_u64.ensures, c.from.ensures)) (search rules)
+returns c ca =
+    let there = c.in-Some.ensures.lookup.3 in
+    success c.onward.ensures (λ f. simp (lt-ltb 0 c.args.at.regs.height (omega (arith, c.if-height-eq0.false)), ← c.as_u64.ensures, lt-ltb _ _ (rw c.told-memory at there.0), c.from_u64.ensures, c.from.ensures, there.1 0)) (search rules)

@@ -10,10 +10,10 @@ pub returns-then-height-lt2 : goal.returns-then-height-lt2
 unfolding write ◌must◌else◌then◌ moved with_stack with_memory
 returns-then-height-lt2 c ca = trapped c.trap.ensures (λ f. simp (lt-leb _ _ c.if-height-lt2.true))
 
-pub returns-then-at-ge-MEMORY_SIZE : goal.returns-then-at-ge-MEMORY_SIZE
+pub returns-then-address-ge-MEMORY_SIZE : goal.returns-then-address-ge-MEMORY_SIZE
 unfolding write ◌must◌else◌then◌ moved with_stack with_memory
-returns-then-at-ge-MEMORY_SIZE c ca = trapped c.trap-then-at-ge-MEMORY_SIZE.ensures (λ f. simp (le-leb _ _ c.if-height-lt2.false, ← c.as_u64-at.ensures, le-ltb _ _ c.if-at-ge-MEMORY_SIZE.true))
+returns-then-address-ge-MEMORY_SIZE c ca = trapped c.trap-then-address-ge-MEMORY_SIZE.ensures (λ f. simp (le-leb _ _ c.if-height-lt2.false, ← c.as_u64-address.ensures, le-ltb _ _ c.if-address-ge-MEMORY_SIZE.true))
 
 pub returns : goal.returns
 unfolding write ◌must◌else◌then◌ moved with_stack with_memory
-returns c ca = success c.onward.ensures (λ f. simp (le-leb _ _ c.if-height-lt2.false, ← c.as_u64-at.ensures, ← c.as_u64-value.ensures, lt-ltb _ _ c.if-at-ge-MEMORY_SIZE.false)) (search rules)
+returns c ca = success c.onward.ensures (λ f. simp (le-leb _ _ c.if-height-lt2.false, ← c.as_u64-address.ensures, ← c.as_u64-value.ensures, lt-ltb _ _ c.if-address-ge-MEMORY_SIZE.false)) (search rules)

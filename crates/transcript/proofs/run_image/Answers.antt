@@ -5,7 +5,7 @@ use Rattle.transcript.proofs.run_image.Goals as goal
 
 pub returns-in-Err : goal.returns-in-Err
 unfolding printed
-returns-in-Err c = refused_put _ _ _ c.from_binary.ensures c.in-Err.is c.number.ensures c.print_refused.ensures
+returns-in-Err c = refused_put _ _ _ c.from_binary.ensures c.in-Err.is c.from.ensures c.print_refused.ensures
 
 pub returns-in-Ok : goal.returns-in-Ok
 unfolding printed

@@ -1,17 +1,10 @@
 -- `known::keep_jump` meets its contract. Assumes nothing.
-use native.Mathlib.Omega.{arith}
-use borrow.Author.Tests.{lt-ltb, le-ltb}
-use Rattle.known.proofs.Keeping.{is_target, no_target, no_slot}
+use borrow.Author.Tests.{lt-ltb}
+use Rattle.known.proofs.Keeping.{is_target, no_slot}
 use Rattle.known.proofs.Known.keep_jump.Goals as goal
 
-pub returns-then-t-lt65536 : goal.returns-then-t-lt65536
-returns-then-t-lt65536 c = record { sized = record { keys_long = omega arith; targets_long = omega arith }; kept = is_target c.in-Ok.is (simp (lt-ltb _ _ c.if-at-lt-KNOWN_LIMIT.true, lt-ltb _ _ c.if-t-lt65536.true)) }
+pub returns-then-at-lt-KNOWN_LIMIT-clause-kept : goal.returns-then-at-lt-KNOWN_LIMIT-clause-kept
+returns-then-at-lt-KNOWN_LIMIT-clause-kept c = λ h. is_target c.in-Ok-found.is (simp (lt-ltb _ _ c.if-at-lt-KNOWN_LIMIT.true, lt-ltb _ _ c.in-Ok-try_from.ensures.0, c.in-Ok.ensures.1, c.in-Ok-try_from.ensures.1))
 
-pub returns-else-t-lt65536 : goal.returns-else-t-lt65536
-returns-else-t-lt65536 c = record { sized = record { keys_long = omega arith; targets_long = omega arith }; kept = is_target c.in-Ok.is (simp (lt-ltb _ _ c.if-at-lt-KNOWN_LIMIT.true, le-ltb _ _ c.if-t-lt65536.false)) }
-
-pub returns-in_default : goal.returns-in_default
-returns-in_default c = record { sized = record { keys_long = omega arith; targets_long = omega arith }; kept = no_target _ c.in_default.not-Ok }
-
-pub returns-else-at-lt-KNOWN_LIMIT : goal.returns-else-at-lt-KNOWN_LIMIT
-returns-else-at-lt-KNOWN_LIMIT c = record { sized = record { keys_long = omega arith; targets_long = omega arith }; kept = no_slot _ c.if-at-lt-KNOWN_LIMIT.false }
+pub returns-else-at-lt-KNOWN_LIMIT-clause-kept : goal.returns-else-at-lt-KNOWN_LIMIT-clause-kept
+returns-else-at-lt-KNOWN_LIMIT-clause-kept c = λ h. no_slot _ c.if-at-lt-KNOWN_LIMIT.false

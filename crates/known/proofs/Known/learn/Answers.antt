@@ -6,11 +6,8 @@ use Rattle.known.proofs.Known.learn.Goals as goal
 pub loop-i-init : goal.loop-i-init
 loop-i-init c = learns_none
 
-pub keep_plain-requires : goal.keep_plain-requires
-keep_plain-requires c = record { at_in_bounds = omega (arith, c.loop-i-test.true, c.end_of-i-end.ensures, c.requires.count_in_bounds) }
-
 pub loop-i-preserved : goal.loop-i-preserved
-loop-i-preserved c = learns_more (omega arith) c.loop-i.invariant _ (omega (arith, c.loop-i-test.true, c.end_of-i-end.ensures)) c.keep_plain.ensures
+loop-i-preserved c = learns_more (omega arith) c.loop-i.invariant _ (omega (arith, c.loop-i-test.true, c.in-Some.ensures)) c.keep_plain.ensures
 
 pub returns : goal.returns
 returns c = c.loop-i.invariant

@@ -1,6 +1,7 @@
 -- `loader::reading::next_inst` meets its contract. Assumes nothing.
 use mathlib.Core.Path.{refl, sym}
 use borrow.Author.Rules.{rules}
+use borrow.Author.Tests.{le-leb}
 use Rattle.std.proofs.lemmas.Result.{err_from_is_err_and}
 use Rattle.inst_decode.proofs.Facts.{read_in_lem}
 use Rattle.loader.proofs.Instructions.{next_refused, next_five, next_six, next_plain, next_label, further_at}
@@ -25,10 +26,9 @@ returns-then-i-ne-LABEL c =
 pub returns-then-c-ge-LABEL_RECORDS : goal.returns-then-c-ge-LABEL_RECORDS
 returns-then-c-ge-LABEL_RECORDS c = record { value = λ s h e. next_six _ _ s e _ _ (sym c.in_ok-i.ensures) c.if-c-ge-INST_LIMIT.false c.if-i-ne-LABEL.false c.if-c-ge-LABEL_RECORDS.true; ahead = tt }
 
-pub is_start-requires : goal.is_start-requires
-is_start-requires c = (read_in_lem _ _ _ _ (sym c.in_ok-i.ensures)).name_inside
-
 pub returns : goal.returns
 returns c =
-    let f = sym c.in_ok-i.ensures in rw (c.labelled.ensures, c.counted-d.ensures, c.is_start.ensures)
+    let f = sym c.in_ok-i.ensures in
+    let inside = (read_in_lem _ _ _ _ f).name_inside in
+    rw (c.labelled.ensures, c.then_some-start.ensures, c.counted-d.ensures, c.is_start.ensures, le-leb _ _ inside)
     (record { value = λ s h e. next_label _ _ s e _ _ f h c.if-c-ge-INST_LIMIT.false c.if-i-ne-LABEL.false c.if-c-ge-LABEL_RECORDS.false; ahead = further_at _ _ _ _ f c.if-c-ge-INST_LIMIT.false _ refl refl })

@@ -5,17 +5,6 @@ use Rattle.report.specs.Text.{end_line}
 use Rattle.report.proofs.Laws.{prints_both, same_length}
 use Rattle.report.proofs.Output.end_line.Goals as goal
 
-pub push-requires : goal.push-requires
-unfolding end_line
-push-requires c = let h = simp length-append at c.requires in omega arith
-
-pub ending-requires : goal.ending-requires
-unfolding end_line
-ending-requires c =
-    let h = simp length-append at c.requires in
-    let p = c.push.ensures in
-    omega (arith, same_length p.put, p.put.next_is)
-
 pub number-requires : goal.number-requires
 unfolding end_line
 number-requires c =

@@ -14,8 +14,8 @@ returns-then-height-eq0 c ca me = trapped c.trap.ensures (λ f. simp c.if-height
 
 pub returns-then-not-is_stream : goal.returns-then-not-is_stream
 unfolding dump ◌must◌else◌then◌ change.moved
-returns-then-not-is_stream c ca me = trapped c.trap-then-not-is_stream.ensures (λ f. simp (lt-ltb 0 c.args.regs.height (omega (arith, c.if-height-eq0.false)), ← c.is_stream.ensures, c.if-not-is_stream.true))
+returns-then-not-is_stream c ca me = trapped c.trap-then-not-is_stream.ensures (λ f. simp (lt-ltb 0 c.args.at.regs.height (omega (arith, c.if-height-eq0.false)), ← c.is_stream.ensures, c.if-not-is_stream.true))
 
 pub returns : goal.returns
 unfolding dump ◌must◌else◌then◌ change.moved
-returns c ca me = record { does = λ f. simp (lt-ltb 0 c.args.regs.height (omega (arith, c.if-height-eq0.false)), ← c.is_stream.ensures, c.if-not-is_stream.false); small = search rules; kept = (refl, refl, refl) }
+returns c ca me = rw c.next.ensures (record { does = λ f. simp (lt-ltb 0 c.args.at.regs.height (omega (arith, c.if-height-eq0.false)), ← c.is_stream.ensures, c.if-not-is_stream.false); small = search rules; kept = (refl, refl, refl) })

@@ -12,4 +12,4 @@ returns-then-height-lt2 c ca me = trapped c.trap.ensures (λ f. simp (lt-leb _ _
 
 pub returns : goal.returns
 unfolding compare ◌must◌else◌then◌ moved with_stack with_flags
-returns c ca me = record { does = λ f. simp (le-leb _ _ c.if-height-lt2.false, ← c.as_u64-b.ensures, ← c.as_u64-a.ensures, ← c.cmp.ensures); small = search rules; kept = tt }
+returns c ca me = rw c.next.ensures (record { does = λ f. simp (le-leb _ _ c.if-height-lt2.false, ← c.as_u64-b.ensures, ← c.as_u64-a.ensures, ← c.cmp.ensures); small = search rules; kept = tt })

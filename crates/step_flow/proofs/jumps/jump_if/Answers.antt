@@ -15,11 +15,11 @@ use Rattle.step_flow.proofs.jumps.jump_if.Goals as goal
 
 pub returns-in-Ok : goal.returns-in-Ok
 unfolding jump_if change.moved
-returns-in-Ok c s ca me = success c.moved.ensures (λ f. simp (c.in-Ok.is, ← c.is_set.ensures, c.if-not-is_set.true)) (search rules)
+returns-in-Ok c s ca me = success c.onward.ensures (λ f. simp (c.in-Ok.is, ← c.is_set.ensures, c.if-not-is_set.true)) (search rules)
 
 pub returns-in_default : goal.returns-in_default
 returns-in_default c s ca me =
-    let set : (t : ℕ) → c.args.found ≡ Ok t → is_set c.args.flags (jump_of c.args.tested) ≡ true =
+    let set : (t : ℕ) → c.args.found ≡ Ok t → is_set c.args.flags (jump_of c.args.condition) ≡ true =
     elim c.in_default.branch [
       | in_default-via-in-Ok+else-not-is_set w ↦ λ t e. simp (← w.is_set.ensures, w.if-not-is_set.false)
       | in_default-via-in_default w ↦ λ t e. absurd (w.in_default.not-Ok t e)

@@ -10,7 +10,7 @@ use Rattle.step_stack.proofs.cells.swap.Goals as goal
 
 pub returns-then-depth-height : goal.returns-then-depth-height
 unfolding swap ◌must◌else◌then◌ moved with_stack
-returns-then-depth-height c ca me = success c.onward.ensures (λ f. simp (lt-ltb _ _ c.if-depth-height.true, c.swap.ensures.after, ← swap_is c.args.stack.now (c.args.regs.height - 1 - c.args.depth) (c.args.regs.height - 1) 0 (search rules) (search rules))) (search rules)
+returns-then-depth-height c ca me = success c.onward.ensures (λ f. simp (lt-ltb _ _ c.if-depth-height.true, c.swap.ensures.after, ← swap_is c.args.stack.now (c.args.at.regs.height - 1 - c.args.depth) (c.args.at.regs.height - 1) 0 (search rules) (search rules))) (search rules)
 
 pub returns-else-depth-height : goal.returns-else-depth-height
 unfolding swap ◌must◌else◌then◌ moved with_stack
