@@ -117,11 +117,13 @@ struct mm_ran mm_run(const uint8_t *image, size_t image_len, const uint8_t *inst
 
 /* Writes the program out as an image, the appended HALT included. It takes the length of the image that it was loaded from, and one byte more exactly if HALT
  * was appended. What is written loads again, as the same program, unless that byte makes it longer than MM_IMAGE_MAX, and writing that gives the same bytes.
- * All this is proved, for every image that a load accepts; MM_ILL_RECORD is never answered then. */
+ * All this is proved, for every image that a load accepts; MM_ILL_RECORD is never answered then. Each instruction's bytes begin at the sum of the lengths of
+ * those before it: 1; 9 with a cell or a number; 2 with a stream; 9 and the name with a name. That is proved of every table. */
 struct mm_encoded mm_encode(const uint8_t *image, size_t image_len, const uint8_t *insts, size_t insts_len, uint64_t count, uint8_t *out, size_t out_len);
 
 /* The room that mm_encode needs, without writing: the size that it then answers. MM_ILL_RECORD where mm_encode answers it; MM_NO_ROOM where the size passes
- * 2^64 - 1 bytes, which a loaded program's never does. Without asking: the image's length and one byte more is enough for every loaded program. */
+ * 2^64 - 1 bytes, which a loaded program's never does. Without asking: the image's length and one byte more is enough for every loaded program. With a count
+ * of k it answers where instruction k begins, counted from 0. */
 struct mm_encoded mm_encoded_size(const uint8_t *image, size_t image_len, const uint8_t *insts, size_t insts_len, uint64_t count);
 
 /* The number at a place in a machine, a table or a dump buffer. */

@@ -31,6 +31,9 @@ type Held = Result<(), String>;
 const FILLS: [u8; 2] = [0xA7, 0x5C];
 const OUTPUT: u8 = 0x3B;
 
+// Fewer instructions than so many are written in any order.
+const PICKED: u64 = 16;
+
 // How far both programs are run, and the bytes of the buffer.
 const STEPS: u64 = 64;
 const DUMPS: usize = 16 * NUMBER_SIZE;
@@ -43,6 +46,7 @@ struct Trial {
     met: Met,
     appended: u64,
     too_long: u64,
+    picked: u64,
 }
 
 const NAMES: [&str; SLICES] = ["image", "instruction table", "label table", "machine", "output"];
@@ -82,7 +86,7 @@ impl Trial {
     fn new(seed: u64) -> Trial {
         let sizes = [0, INSTS_SIZE, LABELS_SIZE, MACHINE_SIZE, 0];
         let blanks = FILLS.map(|fill| sizes.map(|size| vec![fill; size]));
-        Trial { stand: Stand::guarded(), blanks, random: Random(seed), met: Met::new(), appended: 0, too_long: 0 }
+        Trial { stand: Stand::guarded(), blanks, random: Random(seed), met: Met::new(), appended: 0, too_long: 0, picked: 0 }
     }
 
     // The image is accepted with what the walk has; what is lent from then on. One time in sixteen that is the whole tables, else they are
@@ -119,6 +123,27 @@ impl Trial {
         expect_kept(stand, Call::Encode { count: count as u64 + 1 }, &lent, [9, 0, 0])
     }
 
+    // A table that no load filled: the program's instructions in any order, some more than once. Each one's bytes begin where the lengths
+    // before it end, and the size of the first k is where the next one begins.
+    fn in_any_order(&mut self, loaded: &Lent, walk: &Walk, written: &[u8]) -> Held {
+        let (mut picked, mut room) = (Vec::new(), IMAGE_MAX);
+        for _ in 0..self.random.below(PICKED) {
+            let i = self.random.below(walk.count() as u64) as usize;
+            let Some(left) = room.checked_sub(walk.end(i) - walk.start(i)) else { break };
+            picked.push(i);
+            room = left;
+        }
+        let records: Vec<u8> = picked.iter().flat_map(|i| &loaded[INSTS][i * RECORD_SIZE..][..RECORD_SIZE]).copied().collect();
+        let mut lent = [loaded[0].clone(), records, Vec::new(), Vec::new(), Vec::new()];
+        let mut out = Vec::new();
+        for (k, i) in picked.iter().enumerate() {
+            expect_kept(&mut self.stand, Call::Size { count: k as u64 }, &lent, [0, out.len() as u64, 0])?;
+            out.extend_from_slice(&written[walk.start(*i)..walk.end(*i)]);
+        }
+        self.picked += picked.len() as u64;
+        expect_encoded(&mut self.stand, &mut lent, picked.len(), out.len() + 1, &out)
+    }
+
     // Answer, machine and cells of a run.
     fn ran(&mut self, loaded: &Lent, walk: &Walk) -> Result<([u64; 3], [Vec<u8>; 2]), String> {
         let mut lent = loaded.clone();
@@ -135,6 +160,7 @@ impl Trial {
         self.appended += u64::from(walk.is_open());
         let first = self.loaded(image, &walk, 0)?;
         self.written_out(&first, &walk, &written)?;
+        self.in_any_order(&first, &walk, &written)?;
         if written.len() > IMAGE_MAX {
             self.too_long += 1;
             self.blanks[1][0] = written;
@@ -168,10 +194,11 @@ fn main() {
         println!("rewritten: {wrong} of {wanted} images of seed {seed} go wrong; the shortest is {what}\n{image:02X?}");
         std::process::exit(1);
     }
-    let Trial { met, appended, too_long, .. } = &trial;
+    let Trial { met, appended, too_long, picked, .. } = &trial;
     let calls = blocks::calls();
     println!(
-        "rewritten: {wanted} images, {appended} with HALT appended, {too_long} then too long to load; {calls} calls as worked out; {met}"
+        "rewritten: {wanted} images, {appended} with HALT appended, {too_long} then too long to load; {picked} instructions in another order; {calls} calls as \
+         worked out; {met}"
     );
     let missing = met.missing();
     if !missing.is_empty() {

@@ -48,8 +48,8 @@ pub struct Walk<'a> {
     pub insts: Vec<Inst>,
 }
 
-// Where the instruction from there on ends. Of a length field the low 48 bits count.
-fn end(image: &[u8], at: usize) -> usize {
+/// Where the instruction from there on ends, by document 01's lengths. Of a length field the low 48 bits count.
+pub fn end(image: &[u8], at: usize) -> usize {
     match form(image[at]) {
         Form::None => at + 1,
         Form::One => at + 2,
@@ -95,6 +95,11 @@ impl<'a> Walk<'a> {
     /// Where the instruction of that index begins in what is written out: as in the image, and the HALT behind it.
     pub fn start(&self, index: usize) -> usize {
         self.insts.get(index).map_or(self.image.len(), |inst| inst.at)
+    }
+
+    /// And where it ends there.
+    pub fn end(&self, index: usize) -> usize {
+        self.insts.get(index).map_or(self.image.len() + 1, |inst| inst.end)
     }
 
     /// What the image is written out as: 46 for 27, the two highest bytes of a length 0, HALT behind it where a load appends it.

@@ -71,7 +71,8 @@ impl<'a> Program<'a> {
     /// Writes the program out as an image, the appended HALT included, and returns what was written: the front of `out`.
     ///
     /// It takes the length of the image that it was loaded from, and one byte more exactly if HALT was appended. What is written loads again, as the same
-    /// program, unless that byte makes it longer than 16,384 bytes, and writing that gives the same bytes. All this is proved.
+    /// program, unless that byte makes it longer than 16,384 bytes, and writing that gives the same bytes. Each instruction's bytes begin at the sum of the
+    /// lengths of those before it: 1; 9 with a cell or a number; 2 with a stream; 9 and the name with a name. All this is proved.
     ///
     /// # Errors
     ///
@@ -193,5 +194,20 @@ mod tests {
         // a byte is missing of the second record; a record is missing of all that the table has room for
         assert_ill(Program { insts: &program.insts[..2 * RECORD_SIZE - 1], ..program });
         assert_ill(Program { count: INST_MAX as u64 + 1, ..program });
+    }
+
+    #[test]
+    fn the_size_of_the_first_instructions_is_where_the_next_begins() {
+        // LABEL _start, LABEL of no name, PUSH, FDMP, INC; HALT is appended
+        let image = *b"\x15\x06\0\0\0\0\0\0\0_start\x15\0\0\0\0\0\0\0\0\x01\x05\0\0\0\0\0\xF2\x7F\x2E\x01\x03";
+        let (mut insts, mut labels, mut machine) = ([0; INSTS_SIZE], [0; LABELS_SIZE], [0; MACHINE_SIZE]);
+        let (program, _) = Program::load(&image, &mut insts, &mut labels, &mut machine).expect("it loads");
+        for (count, size) in [0, 15, 24, 33, 35, 36, 37].into_iter().enumerate() {
+            let first = Program { count: count as u64, ..program };
+            let (mut out, mut whole) = ([0xEE; 37], [0xEE; 37]);
+            assert_eq!(first.encoded_size(), Ok(size));
+            assert_eq!(first.encode(&mut out).map(|written| &*written), Ok(&program.encode(&mut whole).expect("it fits")[..size]));
+            assert_eq!(out[size..], [0xEE; 37][size..]);
+        }
     }
 }

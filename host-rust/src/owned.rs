@@ -41,7 +41,8 @@ impl Program {
     }
 
     /// The program written out as an image, the HALT that the load appended included. It loads again, as the same program, and is then written out as the same
-    /// bytes, but for one case: where the image had 16,384 bytes and a HALT was appended, a load refuses it with [`Refusal::ImageTooLong`]. That is proved.
+    /// bytes, but for one case: where the image had 16,384 bytes and a HALT was appended, a load refuses it with [`Refusal::ImageTooLong`]. Each instruction's
+    /// bytes begin at the sum of the lengths of those before it: 1; 9 with a cell or a number; 2 with a stream; 9 and the name with a name. That is proved.
     #[must_use]
     pub fn encode(&self) -> Vec<u8> {
         let mut out = vec![0; self.encoded_size()];

@@ -152,6 +152,29 @@ fn what_is_written_out_loads_again() {
     assert_eq!(room[out.len()..], [9, 9]);
 }
 
+// 1 byte; 9 with a cell or a number; 2 with a stream; 9 and the name with a name, also one of no byte.
+#[test]
+fn each_instruction_begins_where_the_lengths_before_it_end() {
+    let number = [&[10], 3u64.to_le_bytes().as_slice()].concat();
+    let insts = [
+        (15, named(21, "_start")),
+        (9, named(21, "")),
+        (9, push(int(5))),
+        (9, number),
+        (2, vec![46, 1]),
+        (10, named(20, "x")),
+        (1, vec![5]),
+        (1, vec![69]),
+    ];
+    let out = load(insts.clone().map(|(_, inst)| inst).concat()).encode();
+    let mut at = 0;
+    for (length, inst) in insts {
+        assert_eq!(out[at..at + length], inst);
+        at += length;
+    }
+    assert_eq!(at, out.len());
+}
+
 // The size of the program, which is what an encoding needs: as much is enough, and with a byte less nothing is written.
 fn size_needed(image: &[u8]) -> usize {
     let program = load(image.to_vec());

@@ -7,7 +7,7 @@ use crate::lent::sys::Ran;
 use crate::lent::{number_at, Machine, Program};
 use crate::report::Report;
 use crate::trap::number;
-use crate::walk::Walk;
+use crate::walk::{self, Walk};
 use mm::{Mm, NaNBox, Natives};
 use std::fmt;
 use std::panic::{catch_unwind, AssertUnwindSafe};
@@ -334,6 +334,16 @@ fn as_expected(ours: &Program, written: &[u8], report: &mut Report) -> Option<St
     (!same).then(|| format!("the Rust writes {} bytes out, our size is {size:?}", written.len()))
 }
 
+// In what ours wrote, which is what the Rust writes, each instruction's bytes by the Rust end where document 01's length of it says.
+fn at_offsets(program: &mm::Program, out: &[u8]) -> Option<String> {
+    let mut at = 0;
+    program.iter().enumerate().find_map(|(k, (_, inst))| {
+        let from = at;
+        at = walk::end(out, from);
+        (out.get(from..at) != Some(&inst.as_bytes()[..])).then(|| format!("instruction {k}, written out from byte {from} to {at}"))
+    })
+}
+
 // What both have after the load: the instructions, written out, and the machine.
 fn after_load(ours: &Program, machine: &Machine, rust: &Mm, program: &mm::Program, report: &mut Report) -> Option<String> {
     let written: Vec<u8> = program.iter().flat_map(|(_, inst)| inst.as_bytes()).collect();
@@ -346,7 +356,10 @@ fn after_load(ours: &Program, machine: &Machine, rust: &Mm, program: &mm::Progra
         return Some(format!("instructions: Rust {}, ours {}", program.len(), ours.count));
     }
     let loaded = first_difference(rust, machine).map(|what| format!("after the load: {what}"));
-    loaded.or_else(|| as_expected(ours, &written, report)).or_else(|| loads_again(ours, machine, &written, report))
+    loaded
+        .or_else(|| at_offsets(program, &out))
+        .or_else(|| as_expected(ours, &written, report))
+        .or_else(|| loads_again(ours, machine, &written, report))
 }
 
 fn judged(image: &Vec<u8>, steps: u64, random: &mut Random, report: &mut Report) -> Verdict {

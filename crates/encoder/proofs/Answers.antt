@@ -9,13 +9,24 @@ use lib.ListN.{length, take}
 use borrow.Author.Tests.{leb-true, leb-false, le-leb, lt-leb}
 use Rattle.inst.specs.declared.Inst.{Inst}
 use Rattle.inst.proofs.Laws.{and_left, and_right}
-use Rattle.machine.specs.Encode.{all_well_formed, bytes_of_all, unencoded, encoded, in_room, size_of}
-use Rattle.encoder.specs.Encoder.{Fits}
-use Rattle.std.specs.Prelude.{Option, Some, None, SomeIff, Result, Err, ok_or}
+use Rattle.machine.specs.Encode.{all_well_formed, bytes_of_all, Encoded, unencoded, encoded, in_room, size_of}
+use Rattle.encoder.specs.declared.EncodeError.{EncodeError}
+use Rattle.encoder.specs.Encoder.{number_of, means, Fits}
+use Rattle.std.specs.Prelude.{Option, Some, None, SomeIff, Result, Ok, Err, ok_or}
 
 -- a number is no size
 pub other : {A : Type 0} (m n : ℕ) → unencoded m ≡ encoded n → A
 other m n e = let z : ◌≡◌ {A = ℕ} 0 1 = cc in absurd (omega arith)
+
+-- the size of what answers one
+abbrev pub number_in : Encoded → ℕ
+number_in (unencoded n) = n
+number_in (encoded n) = n
+
+pub means_size : (r : Result ℕ EncodeError) (n : ℕ) → means r ≡ encoded n → r ≡ Ok n
+unfolding means
+means_size (Err e) n h = other (number_of e) n h
+means_size (Ok m) n h = ap Ok (ap number_in h)
 
 -- what the exit of a `?` behind ok_or returns
 pub exit : {T A E : Type 0} {r : Result T E} {o : Option A} {e x : E} → (y : E) × (r ≡ Err y) × (y ≡ e) → o ≡ None → Err e ≡ ok_or o x → r ≡ Err x

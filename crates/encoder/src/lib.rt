@@ -63,11 +63,13 @@ fn write(code: Code<'_>, out: &mut [u8])
 {
     let mut at = 0;
     for i in 0..code.count {
-        at += as_bytes(code.image, code.inst(i), &mut out[at..]);
+        let size = as_bytes(code.image, code.inst(i), &mut out[at..]);
+        at += size;
     }
 }
 
-// Writes `count` records of the table, and leaves the rest of the output. With an error nothing is written.
+// Writes `count` records of the table, and leaves the rest of the output. With an error nothing is written. That each record's bytes
+// begin at the sum of the lengths before it is stated by crate offsets.
 pub fn to_binary(
     image: &[u8],
     insts: &[u8],

@@ -15,7 +15,7 @@ use Rattle.std.specs.Prelude.{Option, Some, None, IsSome, MatchOption}
 use Rattle.std.specs.Borrow.{Bor}
 use Rattle.inst.specs.Records.{part, name_in, fits, well_formed}
 use Rattle.inst.proofs.Laws.{never, and_left, and_right}
-use Rattle.inst_encode.specs.Encode.{bytes_of, operand_bytes, size_by, as_bytes}
+use Rattle.inst_encode.specs.Encode.{bytes_of, operand_bytes, size_by, as_bytes, inst_length}
 
 pub length_bytes : (k n : ℕ) → length (bytes_of k n) ≡ k
 unfolding bytes_of
@@ -52,11 +52,11 @@ module _ (image : List ℕ) (i : Inst) where
       (omega arith, omega arith)
   sized undefined w = never w
 
-  pub size_is : well_formed image i ≡ true → length (as_bytes image i) ≡ size_by (form_of i.typ) i.len
+  pub size_is : well_formed image i ≡ true → length (as_bytes image i) ≡ inst_length i
   unfolding Sized well_formed as_bytes
   size_is w = (sized (form_of i.typ) w).0
 
-  pub size_below : well_formed image i ≡ true → size_by (form_of i.typ) i.len ≤ 9 + length image
+  pub size_below : well_formed image i ≡ true → inst_length i ≤ 9 + length image
   unfolding Sized well_formed
   size_below w = (sized (form_of i.typ) w).1
 

@@ -21,10 +21,14 @@ operand_bytes image i undefined = []
 unfoldable pub as_bytes : List ℕ → Inst → List ℕ
 as_bytes image i = i.typ ∷ operand_bytes image i (form_of i.typ)
 
--- how many bytes a record of a form has, with a name of this length
+-- how many bytes an instruction of a form has, with a name of this length
 unfoldable pub size_by : Form → ℕ → ℕ
 size_by none len = 1
 size_by eight len = 9
 size_by one len = 2
 size_by name len = 9 + len
 size_by undefined len = 1
+
+-- an instruction's length in bytes, by its form: 1, 9, 2, or 9 and the name
+abbrev pub inst_length : Inst → ℕ
+inst_length i = size_by (form_of i.typ) i.len

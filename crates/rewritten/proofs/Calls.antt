@@ -26,21 +26,12 @@ use Rattle.loader.proofs.Left.{insts_left_lem}
 use Rattle.encoder.specs.declared.EncodeError.{EncodeError}
 use Rattle.encoder.specs.declared.EncodeError.TheVariants as unwritten
 use Rattle.encoder.specs.Encoder as encoder
-use Rattle.encoder.proofs.Answers.{other}
+use Rattle.encoder.proofs.Answers.{other, number_in, means_size}
 use Rattle.rewritten.specs.Rewritten.{written_into, Writes, loaded_again, Rewritten}
 use Rattle.rewritten.specs.Calls.{Encodes, LoadsAgain, CallsRewritten, CallsAreRewritten}
 use Rattle.rewritten.proofs.Whole.{images_are_rewritten}
 
 -- ---- an encoding
-
-abbrev number_in : Encoded → ℕ
-number_in (unencoded n) = n
-number_in (encoded n) = n
-
-means_size : (r : Result ℕ EncodeError) (n : ℕ) → encoder.means r ≡ encoded n → r ≡ Ok n
-unfolding encoder.means
-means_size (Err e) n h = other (encoder.number_of e) n h
-means_size (Ok m) n h = ap Ok (ap number_in h)
 
 means_no_room : (r : Result ℕ EncodeError) → encoder.means r ≡ unencoded 10 → r ≡ Err unwritten.NoRoom
 unfolding encoder.means

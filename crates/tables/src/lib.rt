@@ -46,8 +46,8 @@ pub trait Record {
 
     ghost numbers: { Self → List ℕ };
 
-    fn from_numbers(four: [u64; 4]) -> Self
-        ensures { result ≡ of_numbers (slice_index four 0) (slice_index four 1) (slice_index four 2) (slice_index four 3) };
+    fn from_numbers(a: u64, b: u64, c: u64, d: u64) -> Self
+        ensures { result ≡ of_numbers a b c d };
 
     fn to_numbers(self) -> [u64; 4]
         ensures { result ≡ numbers self };
@@ -66,7 +66,7 @@ impl Record for Inst {
 
     ghost forth = { λ r. refl };
 
-    fn from_numbers([typ, val, start, len]: [u64; 4]) -> Inst {
+    fn from_numbers(typ: u64, val: u64, start: u64, len: u64) -> Inst {
         Inst {
             typ,
             val,
@@ -89,7 +89,7 @@ impl Record for Label {
 
     ghost forth = { λ r. refl };
 
-    fn from_numbers([start, len, target, next]: [u64; 4]) -> Label {
+    fn from_numbers(start: u64, len: u64, target: u64, next: u64) -> Label {
         Label {
             start,
             len,
@@ -109,12 +109,12 @@ pub fn record_at<R: Record>(table: &[u8], i: usize) -> R
     ensures { (d : R) → result ≡ get_or (records_of R.of_numbers (numbers_in table.now)) i d }
 {
     let n = i * 4;
-    R::from_numbers([
+    R::from_numbers(
         number_at(table, n),
         number_at(table, n + 1),
         number_at(table, n + 2),
         number_at(table, n + 3),
-    ])
+    )
 }
 
 // A record as record i of a table.

@@ -1,14 +1,14 @@
 -- Eight bytes of a slice, and of a number. Assumes nothing.
-use Prim.Native.Nat.{ℕ, suc, ◌<◌, ◌≤◌, ◌+◌, ◌-◌, ◌*◌, ◌/◌, ◌%◌, ◌^◌}
+use Prim.Native.Nat.{ℕ, suc, ◌<◌, ◌≤◌, ◌+◌, ◌-◌, ◌*◌, ◌/◌, ◌%◌}
 use mathlib.Core.Path.{◌≡◌, ap, sym, ◌∙◌}
-use mathlib.Core.List.{List, [], ◌∷◌, ◌++◌, append_assoc}
-use native.Mathlib.Nat.{add-zero, mod-eq_of_lt}
+use mathlib.Core.List.{List, [], ◌∷◌}
+use native.Mathlib.Nat.{add-zero}
 use native.Mathlib.Omega.{arith}
 use lib.ListN.{length, take, drop, get_or, length-drop}
-use lib.Seq.{slice, slice-cons, slice_empty, sets, sets-eq, length-take-le, take_all, drop-drop}
-use Rattle.std.specs.Int.{w64, from_le_bytes, to_le_bytes}
+use lib.Seq.{slice, slice-cons, slice_empty, length-take-le, take_all}
+use Rattle.std.specs.Int.{w64, from_le_bytes}
 use Rattle.std.proofs.lemmas.List.{drop-take}
-use Rattle.word.specs.Words.{little_endian, number_of, word, eight_of}
+use Rattle.word.specs.Words.{little_endian, number_of, word}
 
 slice_eight : (s : List ℕ) (at : ℕ) → at + 8 ≤ length s
     → slice at (at + 8) s ≡ get_or s at 0 ∷ get_or s (at + 1) 0 ∷ get_or s (at + 2) 0 ∷ get_or s (at + 3) 0 ∷ get_or s (at + 4) 0 ∷ get_or s (at + 5) 0 ∷ get_or s (at + 6) 0 ∷ get_or s (at + 7) 0 ∷ []
@@ -23,6 +23,13 @@ slice_eight s at h =
 pub eight_from : (s : List ℕ) (at : ℕ) → at + 8 ≤ length s
     → number_of (get_or s at 0) (get_or s (at + 1) 0) (get_or s (at + 2) 0) (get_or s (at + 3) 0) (get_or s (at + 4) 0) (get_or s (at + 5) 0) (get_or s (at + 6) 0) (get_or s (at + 7) 0) ≡ word s at
 eight_from s at h = ap little_endian (sym (slice_eight s at h))
+
+-- added up, each at its place
+pub eight_added : (s : List ℕ) (at : ℕ) → at + 8 ≤ length s
+    → get_or s at 0 + 0x100 * get_or s (at + 1) 0 + 0x10000 * get_or s (at + 2) 0 + 0x1000000 * get_or s (at + 3) 0 + 0x100000000 * get_or s (at + 4) 0 + 0x10000000000 * get_or s (at + 5) 0
+    + 0x1000000000000 * get_or s (at + 6) 0 + 0x100000000000000 * get_or s (at + 7) 0 ≡ word s at
+unfolding little_endian
+eight_added s at h = omega (arith, eight_from s at h)
 
 -- eight bytes as the library reads them
 little_is : (bs : List ℕ) → length bs ≡ 8 → from_le_bytes w64 bs ≡ little_endian bs
@@ -66,11 +73,3 @@ pub eight_read : (bs : List ℕ) (at : ℕ) → at + 8 ≤ length bs → from_le
 eight_read bs at h =
     let n : at + 8 - at ≡ 8 = omega arith in
     rw n (little_is (take 8 (drop at bs)) (length-take-le 8 (drop at bs) (omega (arith, length-drop at bs))) ∙ ap little_endian (sym (drop-take at 8 bs)))
-
--- and stored there
-pub eight_stored : (bs : List ℕ) (at v : ℕ) → at + 8 ≤ length bs → v < 2 ^ 64 → take at bs ++ (to_le_bytes w64 v ++ drop (at + 8 - at) (drop at bs)) ≡ sets bs at (eight_of v)
-unfolding eight_of
-eight_stored bs at v h l =
-    let n : at + 8 - at ≡ 8 = omega arith in
-    let top : v / 0x100000000000000 % 256 ≡ v / 0x100000000000000 = mod-eq_of_lt (omega arith) in
-    rw (n, top, drop-drop 8 at bs) (sym (sets-eq (eight_of v) bs at h ∙ append_assoc (take at bs) (eight_of v) (drop (at + 8) bs)))

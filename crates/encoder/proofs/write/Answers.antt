@@ -10,8 +10,8 @@ pub loop-i-init : goal.loop-i-init
 loop-i-init c =
     record { within = table_within _ _ c.args.code.inside; inside = omega arith; well = c.requires.insts_value; fits = omega arith; same = refl; gives = refl }
 
-pub as_bytes-at-requires : goal.as_bytes-at-requires
-as_bytes-at-requires c =
+pub as_bytes-size-requires : goal.as_bytes-size-requires
+as_bytes-size-requires c =
     let t = c.loop-i-test.true in
     let e = inst_at _ _ _ _ c.args.code.inside t c.inst.ensures in
     let s = c.loop-i.invariant in
@@ -23,14 +23,14 @@ overflow_add-at c =
     let t = c.loop-i-test.true in
     let s = c.loop-i.invariant in
     let f = stored_fits _ _ _ _ _ _ _ s _ t (inst_at _ _ _ _ c.args.code.inside t c.inst.ensures) in
-    let e = c.as_bytes-at.ensures.value in
+    let e = c.as_bytes-size.ensures.value in
     omega (arith, s.same, c.well_formed)
 
 pub loop-i-preserved : goal.loop-i-preserved
 loop-i-preserved c =
     let t = c.loop-i-test.true in
     let s = c.loop-i.invariant in
-    let e = c.as_bytes-at.ensures in
+    let e = c.as_bytes-size.ensures in
     let i = inst_at _ _ _ _ c.args.code.inside t c.inst.ensures in
     stored_next _ _ _ _ _ _ _ s _ _ _ t i e.value (lent_part c.loop-i.out _ _ c.loop-i.at _ (stored_fits _ _ _ _ _ _ _ s _ t i) (search rules) e.out_after)
 

@@ -1,0 +1,3 @@
+mod Offsets
+mod Calls
+mod Examples
