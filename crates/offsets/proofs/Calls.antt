@@ -1,22 +1,21 @@
 -- The same of the calls, by their contracts. Assumes nothing.
-use Prim.Native.Nat.{ℕ}
+use Prim.Native.Nat.{ℕ, ◌-◌, ◌^◌}
 use mathlib.Core.Path.{◌≡◌, refl, ap, sym, ◌∙◌}
 use mathlib.Core.Bool.{Bool, true, false, cond, ◌&&◌}
 use mathlib.Core.List.{List}
 use native.Mathlib.Omega.{arith}
 use lib.Dec.{leb}
 use lib.ListN.{length, take}
-use Rattle.std.specs.Prelude.{Result, Ok}
+use borrow.Author.Tests.{le-leb}
+use Rattle.std.specs.Prelude.{Ok}
 use Rattle.inst.specs.declared.Inst.{Inst}
-use Rattle.machine.specs.Encode.{all_well_formed, bytes_of_all, Encoded, unencoded, encoded, size_of, in_room, encode, output_after}
+use Rattle.machine.specs.Encode.{all_well_formed, bytes_of_all, Encoded, unencoded, encoded, size_of, in_room, encode, encoded_size, output_after}
 use Rattle.tables.specs.Tables.{insts_of}
-use Rattle.encoder.specs.declared.EncodeError.{EncodeError}
 use Rattle.encoder.specs.Encoder.{means}
 use Rattle.encoder.proofs.Answers.{means_size}
-use Rattle.mm_host.specs.declared.Encoded.{Encoded as Numbers}
 use Rattle.mm_host.specs.Calls as host
-use Rattle.offsets.specs.Offsets.{WritesAtOffsets}
-use Rattle.offsets.proofs.Offsets.{writes}
+use Rattle.offsets.specs.Offsets.{offset, WritesAtOffsets, CallsWrite, HostCallsAsk}
+use Rattle.offsets.proofs.Offsets.{size_is_sum, writes}
 
 module _ (image : List ℕ) (insts : List Inst) (count : ℕ) (out : List ℕ) where
   abbrev e : Encoded
@@ -34,9 +33,10 @@ module _ (image : List ℕ) (insts : List Inst) (count : ℕ) (out : List ℕ) w
         refused_is = λ f. o ∙ w.refused_is (λ n h. f n (forth n h));
       }
 
-  pub writes_by : (r : Result ℕ EncodeError) (out' : List ℕ) → means r ≡ e → out' ≡ output_after e image insts count out → WritesAtOffsets image insts count out (λ n. r ≡ Ok n) out'
-  unfolding means
-  writes_by r out' a o = carried (λ n. r ≡ Ok n) out' (λ n h. means_size r n (a ∙ h)) (λ n h. sym a ∙ ap means h) o
+pub calls_write : CallsWrite
+unfolding means
+calls_write image insts count out r out' c =
+    carried image (insts_of insts) count out (λ n. r ≡ Ok n) out' (λ n h. means_size r n (c.answers ∙ h)) (λ n h. sym c.answers ∙ ap means h) c.output_is
 
 -- no refusal of an encoding is 0
 unfoldable Sized : Encoded → Type 0
@@ -64,9 +64,6 @@ module _ (image insts : List ℕ) (count : ℕ) (out : List ℕ) (r : host.Encod
   unfolding host.encode_call
   size_is = ap (λ (c : host.EncodeCall). c.size) a
 
-  pub numbers_are : ◌≡◌ {A = Numbers} (record { number = r.number; size = r.size }) (host.encoded_numbers answer)
-  numbers_are = rw (sym number_is, sym size_is) refl
-
   output_is : output_after answer image (insts_of insts) count out ≡ r.out
   unfolding host.encode_call
   output_is = ap (λ (c : host.EncodeCall). c.out) a
@@ -83,5 +80,9 @@ module _ (image insts : List ℕ) (count : ℕ) (out : List ℕ) (r : host.Encod
   unfolding Sized
   back n z = sized (number_is ∙ z.0) ∙ ap encoded (size_is ∙ z.1)
 
-  pub host_writes_by : WritesAtOffsets image (insts_of insts) count out (λ n. (r.number ≡ 0) × (r.size ≡ n)) r.out
-  host_writes_by = carried image (insts_of insts) count out (λ n. (r.number ≡ 0) × (r.size ≡ n)) r.out forth back (sym output_is)
+  pub host_calls_write : WritesAtOffsets image (insts_of insts) count out (λ n. (r.number ≡ 0) × (r.size ≡ n)) r.out
+  host_calls_write = carried image (insts_of insts) count out (λ n. (r.number ≡ 0) × (r.size ≡ n)) r.out forth back (sym output_is)
+
+pub host_calls_ask : HostCallsAsk
+unfolding host.size_call host.encoded_numbers encoded_size in_room
+host_calls_ask image insts k c h = rw (size_is_sum image (insts_of insts) k c, le-leb (offset (insts_of insts) k) (2 ^ 64 - 1) h)

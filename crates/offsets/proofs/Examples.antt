@@ -11,7 +11,7 @@ use Rattle.inst_encode.specs.Encode.{bytes_of, operand_bytes, as_bytes, size_by}
 use Rattle.machine.specs.Encode.{all_well_formed, bytes_of_all, unencoded, encoded, size_of, in_room, encode, output_after}
 use Rattle.offsets.specs.Offsets.{sum_of_lengths, offset}
 
--- the names of a JMP and a LABEL, and what stands behind them
+-- the names of a JMP and of a LABEL. A name of no byte begins at the image's end
 image : List ℕ
 image = 97 ∷ 98 ∷ 99 ∷ []
 
@@ -32,6 +32,9 @@ record Computed : Type 0 where
   label : slice 31 41 (output 6 (replicate 43 7)) ≡ 21 ∷ 1 ∷ 0 ∷ 0 ∷ 0 ∷ 0 ∷ 0 ∷ 0 ∷ 0 ∷ 99 ∷ []
   halt : slice 41 42 (output 6 (replicate 43 7)) ≡ 69 ∷ []
   behind : slice 42 43 (output 6 (replicate 43 7)) ≡ 7 ∷ []
+  -- room for all, to the byte, and a byte less: 10, and nothing is written
+  exact : encode image insts 6 (replicate 42 7) ≡ encoded 42
+  short : (encode image insts 6 (replicate 41 7) ≡ unencoded 10) × (output 6 (replicate 41 7) ≡ replicate 41 7)
   -- the ill record among them: 9, and nothing is written
   ill : (encode image insts 7 (replicate 43 7) ≡ unencoded 9) × (output 7 (replicate 43 7) ≡ replicate 43 7)
   -- no instruction: of this table, and of an empty one
@@ -50,6 +53,8 @@ computed =
       label = refl;
       halt = refl;
       behind = refl;
+      exact = refl;
+      short = (refl, refl);
       ill = (refl, refl);
       none = (refl, refl);
       empty = (refl, refl);

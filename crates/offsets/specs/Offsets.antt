@@ -1,5 +1,5 @@
 -- Document 02, request c: where each instruction's bytes are in what the encoder writes. Definitions only.
-use Rattle.std.specs.Prelude.{ℕ, suc, ◌+◌, ◌<◌, ◌≤◌, ◌≡◌, true, List, [], ◌∷◌, length, get_or, take, drop}
+use Rattle.std.specs.Prelude.{ℕ, suc, ◌+◌, ◌-◌, ◌^◌, ◌<◌, ◌≤◌, ◌≡◌, true, Result, Ok, List, [], ◌∷◌, length, get_or, take, drop}
 use Rattle.std.proofs.Math.Seq.{slice}
 use Rattle.inst.specs.declared.Inst.{Inst}
 use Rattle.inst.specs.Records.{well_formed}
@@ -7,7 +7,9 @@ use Rattle.inst_encode.specs.Encode.{as_bytes, inst_length}
 use Rattle.machine.specs.Load.{halt}
 use Rattle.machine.specs.Encode.{encoded, size_of, encode, output_after}
 use Rattle.tables.specs.Tables.{insts_of}
-use Rattle.mm_host.specs.Calls.{EncodeCall, encode_call}
+use Rattle.encoder.specs.declared.EncodeError.{EncodeError}
+use Rattle.encoder.specs.Encoder.{ToBinary}
+use Rattle.mm_host.specs.Calls.{EncodeCall, encode_call, size_call}
 
 -- the sum of instructions' lengths
 unfoldable pub sum_of_lengths : List Inst → ℕ
@@ -58,13 +60,27 @@ InstructionsAreAtOffsets =
 abbrev pub SizeIsSum : Type 0
 SizeIsSum = (image : List ℕ) (insts : List Inst) (count : ℕ) → CanBeWritten image insts count → size_of image insts count ≡ encoded (offset insts count)
 
--- what the equation of a host's call says of it, that of mm_host and the exported one
+-- of to_binary, by its contract
+abbrev pub CallsWrite : Type 0
+CallsWrite =
+    (image insts : List ℕ) (count : ℕ) (out : List ℕ) (r : Result ℕ EncodeError) (out' : List ℕ) → ToBinary image insts count out r out'
+    → WritesAtOffsets image (insts_of insts) count out (λ size. r ≡ Ok size) out'
+
+-- of mm_encode, by its equation
 abbrev pub HostCallsWrite : Type 0
 HostCallsWrite =
     (image insts : List ℕ) (count : ℕ) (out : List ℕ) (r : EncodeCall) → encode_call image insts count out ≡ r
     → WritesAtOffsets image (insts_of insts) count out (λ size. (r.number ≡ 0) × (r.size ≡ size)) r.out
 
+-- and of mm_encoded_size, asked for the size of the first k instructions: it answers where instruction k begins
+abbrev pub HostCallsAsk : Type 0
+HostCallsAsk =
+    (image insts : List ℕ) (k : ℕ) → CanBeWritten image (insts_of insts) k → offset (insts_of insts) k ≤ 2 ^ 64 - 1
+    → size_call image insts k ≡ record { number = 0; size = offset (insts_of insts) k }
+
 pub record Theorems : Type 0 where
   pub at_offsets : InstructionsAreAtOffsets
   pub size_is_sum : SizeIsSum
+  pub calls : CallsWrite
   pub host_calls : HostCallsWrite
+  pub host_asks : HostCallsAsk

@@ -13,7 +13,7 @@ use Rattle.inst.specs.Records.{Bytes}
 use Rattle.machine.specs.declared.Machine.{Machine}
 use Rattle.machine.specs.Limits.{image_limit, inst_limit, label_records}
 use Rattle.machine.specs.Load.{Loaded, Load, rejects, accepts, insts_after, fresh, count_of}
-use Rattle.machine.specs.Encode.{Encoded, unencoded, encoded}
+use Rattle.machine.specs.Encode.{unencoded, encoded}
 use Rattle.tables.specs.Tables.{insts_of, labels_of}
 use Rattle.std.specs.Prelude.{Result, Ok, Err}
 use Rattle.loader.specs.declared.Accepted.{Accepted}

@@ -4,7 +4,6 @@ use Rattle.std.specs.Prelude.{ℕ, ◌≤◌, ◌≡◌, cond, Result, Ok, Err, 
 use Rattle.inst.specs.Records.{Bytes}
 use Rattle.machine.specs.Limits.{image_limit, inst_limit, label_records}
 use Rattle.machine.specs.Load.{Loaded, accepts, count_of}
-use Rattle.machine.specs.Encode.{encode, encoded_size, output_after}
 use Rattle.tables.specs.Tables.{insts_of, labels_of}
 use Rattle.loader.specs.declared.Accepted.{Accepted}
 use Rattle.loader.specs.declared.refusal.Refusal.{Refusal}
@@ -12,16 +11,8 @@ use Rattle.loader.specs.declared.refusal.Refusal.TheVariants.{ImageTooLong}
 use Rattle.loader.specs.Loading.{load_of, insts_left, labels_left, FromBinary}
 use Rattle.encoder.specs.declared.EncodeError.{EncodeError}
 use Rattle.encoder.specs.declared.EncodeError.TheVariants.{NoRoom}
-use Rattle.encoder.specs.Encoder.{means}
+use Rattle.encoder.specs.Encoder.{ToBinary, EncodedSize}
 use Rattle.rewritten.specs.Rewritten.{written_into, loaded_again, Rewritten}
-
--- what to_binary answers and leaves in the output, and what encoded_size answers: their contracts
-pub record ToBinary (image insts : List ℕ) (count : ℕ) (out : List ℕ) (r : Result ℕ EncodeError) (out' : List ℕ) : Type 0 where
-  pub answers : means r ≡ encode image (insts_of insts) count out
-  pub output_is : out' ≡ output_after (encode image (insts_of insts) count out) image (insts_of insts) count out
-
-abbrev pub EncodedSize : (image insts : List ℕ) → ℕ → Result ℕ EncodeError → Type 0
-EncodedSize image insts count r = means r ≡ encoded_size image (insts_of insts) count
 
 -- these bytes are written, and are then the output's front; or 10 is answered where the output is shorter than they are
 pub record WritesOut (written out : List ℕ) (r : Result ℕ EncodeError) (out' : List ℕ) : Type 0 where

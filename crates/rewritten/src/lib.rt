@@ -1,11 +1,12 @@
-// Document 02, request b: the length of a rewritten image. No behaviour of its own: `encode`, `room`, `host_encode` and `host_room` hold the statements'
-// hypotheses to the calls; `load` and `host_load` of one_history do that for the loads.
+// Document 02, request b: the length of a rewritten image. No behaviour of its own: `encode`, `room`, `host_encode` and `host_room`
+// hold the statements' hypotheses, and those of crate offsets, to the calls; `load` and `host_load` of one_history do that for the loads.
 #![tactic(auto)]
 
 ghost use Rattle.std.specs.Prelude.{◌≡◌};
 ghost use Rattle.mm_host.specs.Calls.{encode_call, size_call};
 ghost use Rattle.rewritten.specs.Rewritten.{Theorems};
-ghost use Rattle.rewritten.specs.Calls.{ToBinary, EncodedSize, CallsAreRewritten};
+ghost use Rattle.encoder.specs.Encoder.{ToBinary, EncodedSize};
+ghost use Rattle.rewritten.specs.Calls.{CallsAreRewritten};
 ghost use Rattle.rewritten.specs.Host.{HostTheorems};
 
 use encoder::EncodeError;
