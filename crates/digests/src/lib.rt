@@ -7,7 +7,7 @@ ghost use Rattle.std.specs.Prelude.{◌≡◌, take};
 ghost use Rattle.tables.specs.Tables.{program, records_of};
 ghost use Rattle.digests.specs.Digests as digests;
 ghost use Rattle.digests.specs.Digests.{once, mixed, digest_of, agreeing};
-ghost use Rattle.digests.specs.Replays.{ReplayImage};
+ghost use Rattle.digests.specs.Replays.{ReplayImage, ReplayRecorded};
 
 use loader::{fresh, from_binary};
 use machine::Machine;
@@ -101,6 +101,33 @@ pub struct Replayed {
     pub steps: usize,
 }
 
+// An image held to what was recorded of it: 0 and the digests of its first steps, or the number of its refusal.
+pub fn replay_image(
+    image: &[u8],
+    number: u8,
+    recorded: &[u8],
+    insts: &mut [u8],
+    labels: &mut [u8],
+) -> Replayed
+    ensures { ReplayImage image.now number recorded.now insts.old labels.old result insts.new labels.new }
+{
+    match from_binary(image, insts, labels) {
+        Err(refusal) => Replayed {
+            same: u8::from(refusal) == number,
+            steps: 0,
+        },
+        Ok(accepted) => {
+            let m = fresh(accepted.ip);
+            let steps = agreeing_steps(image, insts, labels, accepted.count, m, recorded);
+            let all = steps == recorded.len() / DIGEST;
+            Replayed {
+                same: all && number == 0,
+                steps,
+            }
+        }
+    }
+}
+
 // What was recorded of an image: the number of its refusal, or the digests of its first steps. It is no Result: a refusal that
 // was recorded is no failure here.
 #[derive(Clone, Copy, Drop)]
@@ -109,31 +136,23 @@ pub enum Recorded<'a> {
     Steps(&'a [u8]),
 }
 
-// An image held to what was recorded of it.
-pub fn replay_image(
+// An image held to either. No image is refused with the number 0.
+pub fn replay_recorded(
     image: &[u8],
     recorded: Recorded<'_>,
     insts: &mut [u8],
     labels: &mut [u8],
 ) -> Replayed
-    ensures { ReplayImage image.now recorded.entry insts.old labels.old result insts.new labels.new }
+    ensures { ReplayRecorded image.now recorded.entry insts.old labels.old result insts.new labels.new }
 {
-    match (from_binary(image, insts, labels), recorded) {
-        (Err(refusal), Recorded::Refused(number)) => Replayed {
-            same: u8::from(refusal) == number,
-            steps: 0,
-        },
-        (Ok(accepted), Recorded::Steps(digests)) => {
-            let m = fresh(accepted.ip);
-            let steps = agreeing_steps(image, insts, labels, accepted.count, m, digests);
+    match recorded {
+        Recorded::Refused(number) => {
+            let Replayed { same, steps } = replay_image(image, number, &[], insts, labels);
             Replayed {
-                same: steps == digests.len() / DIGEST,
+                same: same && number != 0,
                 steps,
             }
         }
-        _ => Replayed {
-            same: false,
-            steps: 0,
-        },
+        Recorded::Steps(digests) => replay_image(image, 0, digests, insts, labels),
     }
 }

@@ -47,7 +47,7 @@ module _ (n room : ℕ) where
   unfolding in_room
   in_room_lem h = rw (le-leb n room h)
 
-  past_room : room < n → in_room room (encoded n) ≡ unencoded 10
+  pub past_room : room < n → in_room room (encoded n) ≡ unencoded 10
   unfolding in_room
   past_room h = rw (lt-leb n room h)
 

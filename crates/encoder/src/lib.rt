@@ -63,7 +63,7 @@ fn write(code: Code<'_>, out: &mut [u8])
 {
     let mut at = 0;
     for i in 0..code.count {
-        let size = as_bytes(code.image, code.inst(i), &mut out[at..]);
+        let size = as_bytes(code.image, code.inst(i), out, at);
         at += size;
     }
 }

@@ -1,15 +1,16 @@
 -- Conversions between patterns and whole numbers, and the test against zero, from the library's values to those of crate binary64.
-use Rattle.std.proofs.Common.{◌≡◌, ℕ, ◌+◌, ◌-◌, ◌*◌, ◌/◌, ◌^◌, ◌<◌, ◌≤◌, min, Bool, true, false, ltb, ℤ, pos, neg_ℤ, w64, to_z, of_z, sym, refl, ap, ◌∙◌, le_refl, zero-mul, arith, pow_pos, le-ltb}
+use Rattle.std.proofs.Common.{◌≡◌, ℕ, ◌+◌, ◌-◌, ◌*◌, ◌/◌, ◌^◌, ◌<◌, ◌≤◌, min, Bool, true, false, cond, ltb, ℤ, pos, neg_ℤ, w64, to_z, of_z, sym, refl, ap, ◌∙◌, le_refl, zero-mul, arith, pow_pos, le-ltb, le-leb}
 use lib.Signed.{mag}
 use mir.ValLaws.{to_z-of_z}
 use lib.Ieee.{Float, fin, binary64, up, down, lt, of_int, of_bits, to_bits, to_unsigned, to_signed}
 use lib.Ieee.Fits.{down_pos}
 use lib.Ieee.Nearest.{div_same}
 use Rattle.binary64.proofs.Rounded.{theorems}
+use Rattle.binary64.proofs.Special.{nan_is}
 use Rattle.float64.proofs.Decode.{Means, not_number, endless, number, read}
 use Rattle.float64.proofs.Encode.{round_bits}
 use Rattle.float64.proofs.Operations.{ltb_same}
-use Rattle.binary64.specs.Binary64.{Value, value, finite, signed_whole, unsigned_whole, negative, to_i64, to_u64, below_zero, of_whole}
+use Rattle.binary64.specs.Binary64.{is_nan, Value, not_a_number, infinite, finite, value, signed_whole, unsigned_whole, negative, to_i64, to_u64, below_zero, of_whole}
 
 abbrev origin : Float
 origin = fin false 0 (pos 0)
@@ -57,6 +58,20 @@ below_means (endless s) = refl
 below_means (number s u m e a) = below_part m u e a s
 
 -- ---- as the code writes them
+pub nan_whole : (a : ℕ) → is_nan a ≡ true → pos 0 ≡ to_i64 a
+unfolding to_i64 signed_whole
+nan_whole a n = rw (nan_is a n)
+
+no_whole : (b c : Bool) (u : ℕ) → 0 ≡ unsigned_whole (cond b not_a_number (cond c (infinite true) (finite true u)))
+unfolding unsigned_whole
+no_whole true c u = refl
+no_whole false true u = refl
+no_whole false false u = refl
+
+pub sign_whole : (a : ℕ) → 2 ^ 63 ≤ a → 0 ≡ to_u64 a
+unfolding to_u64 value
+sign_whole a h = rw (le-leb (2 ^ 63) a h) (no_whole _ _ _)
+
 module _ (a : ℕ) {x : Float} (p : x ≡ of_bits binary64 a) where
   pub signed_of : {r : ℤ} → mag r < 2 ^ 63 → r ≡ to_signed 63 x → to_z w64 (of_z w64 r) ≡ to_i64 a
   unfolding to_i64

@@ -47,21 +47,28 @@ pub fn div(a: u64, b: u64) -> u64
     to_bits(from_bits(a) / from_bits(b))
 }
 
-// Toward zero, to the nearest end of the range where it is out of it, and 0 for a NaN. This and to_u64 are a line each, the
-// library's cast: one function over the type would take a trait with both definitions as its law.
-#[tactic(auto, using(crate::proofs::Conversions::signed_of))]
+// Toward zero, to the nearest end of the range where it is out of it, and 0 for a NaN. This and to_u64 are the library's cast: one
+// function over the type would take a trait with both definitions as its law. A NaN is told first, since the cast tells it last.
+#[tactic(auto, using(crate::proofs::Conversions::signed_of, crate::proofs::Conversions::nan_whole))]
 pub fn to_i64(a: u64) -> i64
     ensures { result ≡ to_i64 a }
 {
+    if is_nan(a) {
+        return 0;
+    }
     saturating_f64_to_i64(from_bits(a))
 }
 
-// The same without a sign: 0 for what is below zero.
-#[tactic(auto, using(crate::proofs::Conversions::unsigned_of))]
+// The same without a sign: 0 for what is below zero. The sign is told first, since the cast tells it behind the end of the range.
+#[tactic(auto, using(crate::proofs::Conversions::unsigned_of, crate::proofs::Conversions::sign_whole))]
 pub fn to_u64(a: u64) -> u64
     ensures { result ≡ to_u64 a }
 {
-    saturating_f64_to_u64(from_bits(a))
+    if a >= 0x8000000000000000 {
+        0
+    } else {
+        saturating_f64_to_u64(from_bits(a))
+    }
 }
 
 // The double nearest to n, ties to even: n itself where it has at most 53 digits.

@@ -20,11 +20,24 @@ impl Inst {
     }
 }
 
-// The check of a name: every byte is below 128. Named as its definition, which callers' contracts cite.
-pub fn name_ok(bytes: &[u8]) -> bool
+// The check of a name of eight bytes or more: the library's, which reads words. It is no part of its callers' loops.
+#[inline(never)]
+fn long_name_ok(bytes: &[u8]) -> bool
     ensures { result ≡ name_ok bytes.now }
 {
     bytes.is_ascii()
+}
+
+// The check of a name: every byte is below 128. Named as its definition, which callers' contracts cite. Of a short name each byte is
+// looked at in place: the library's check is longer, and as a call it takes an encoding of names half as long again.
+pub fn name_ok(bytes: &[u8]) -> bool
+    ensures { result ≡ name_ok bytes.now }
+{
+    if bytes.len() < 8 {
+        bytes.iter().all(|b| *b < 128)
+    } else {
+        long_name_ok(bytes)
+    }
 }
 
 // Whether two names are the same bytes. `==` under the definition's name: what goes by names cites `same`.
@@ -42,11 +55,14 @@ pub fn part(image: &[u8], start: u64, len: u64) -> Option<&[u8]>
     image.get(start as usize..)?.get(..len as usize)
 }
 
-// A name: the part of the image, if it passes its check.
+// A name: the part of the image, if it passes its check. In line: else the slice goes through memory for each record of a chain or a
+// table, and names of a few letters take half as long again.
+#[inline(always)]
 pub fn name(image: &[u8], start: u64, len: u64) -> Option<&[u8]>
     ensures { MatchOption result (name_in image.now start len ≡ false) (λ n. (name_in image.now start len ≡ true) × (n.now ≡ part image.now start len)) }
 {
-    part(image, start, len).filter(|name| name_ok(name))
+    let name = part(image, start, len)?;
+    if name_ok(name) { Some(name) } else { None }
 }
 
 // Whether a name lies in the image and passes its check.

@@ -25,6 +25,11 @@ length_bytes (suc k) n = ap suc (length_bytes k (n / 256))
 part_length : (image : List ℕ) (start len : ℕ) → start + len ≤ length image → length (part image start len) ≡ len
 part_length image start len h = rw (length-slice start (start + len) image h) (omega arith)
 
+-- no encoding is empty
+pub size_some : (image : List ℕ) (i : Inst) → 0 < length (as_bytes image i)
+unfolding as_bytes
+size_some image i = omega arith
+
 -- the part that the code finds
 module _ (image : List ℕ) (start len : ℕ) where
   abbrev Parts : Option (Bor (List ℕ)) → Type 0

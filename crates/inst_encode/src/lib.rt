@@ -44,10 +44,9 @@ pub fn checked_len(image: &[u8], inst: Inst) -> Option<usize>
     Some(size(form, inst.len))
 }
 
-// Writes a record's bytes at the front of the output and returns how many they are. The rest of the output stays.
-// The caller tests the record and the room first (9 and 10 of the encoder).
+// A record's bytes at the front of the output.
 #[tactic(auto, unfolding(crate::specs::Encode::as_bytes, crate::specs::Encode::operand_bytes, inst::specs::Forms::means, inst::specs::Forms::form_at))]
-pub fn as_bytes(image: &[u8], inst: Inst, out: &mut [u8]) -> usize
+fn put_front(image: &[u8], inst: Inst, out: &mut [u8]) -> usize
     requires inst_value { well_formed image.now inst ≡ true }
     requires inst_in_bounds { length (as_bytes image.now inst) ≤ length out.old }
     ensures value { result ≡ length (as_bytes image.now inst) }
@@ -65,4 +64,15 @@ pub fn as_bytes(image: &[u8], inst: Inst, out: &mut [u8]) -> usize
         }
     }
     size(form, inst.len)
+}
+
+// Writes a record's bytes from `at` on and returns how many they are. The rest of the output stays.
+// The caller tests the record and the room first (9 and 10 of the encoder).
+pub fn as_bytes(image: &[u8], inst: Inst, out: &mut [u8], at: usize) -> usize
+    requires inst_value { well_formed image.now inst ≡ true }
+    requires inst_in_bounds { at + length (as_bytes image.now inst) ≤ length out.old }
+    ensures value { result ≡ length (as_bytes image.now inst) }
+    ensures out_after { out.new ≡ sets out.old at (as_bytes image.now inst) }
+{
+    put_front(image, inst, &mut out[at..])
 }

@@ -12,7 +12,7 @@ use Rattle.step_core.specs.Parts.{LookedUp}
 use Rattle.inst.proofs.Facts.{typ_byte}
 use Rattle.inst.proofs.Laws.{and_left, and_right}
 use Rattle.inst.specs.Records.{well_formed}
-use Rattle.std.specs.Prelude.{Ok, Err, IfOk}
+use Rattle.std.specs.Prelude.{Option, Some, None, IfSome, Ok, Err, IfOk}
 use Rattle.known.specs.Known.{known_limit, unknown, looks_up, Entries, Sized}
 use Rattle.known.specs.Keeps.{KeepsTarget, KeepsJump, with_key, is_plain_at, KeepsPlain, Learnt, Learns}
 use Rattle.tables.specs.Tables.{number_at, inst_of}
@@ -38,22 +38,28 @@ module _ (P : ℕ → ℕ → ℕ → Type 0) (k : Known) (sized : Sized k) (ent
 
 -- what is kept of a jump, by what was found
 module _ {k : Known} {at op : ℕ} where
-  pub is_target : {found : LookedUp} {t : ℕ} {k' : Known} → found ≡ Ok t → KeepsTarget k at op (Ok t) k' → KeepsJump k at op found k'
-  is_target e q = rw e (record { is = q })
+  pub is_target : {asked : Option LookedUp} {found : LookedUp} {t : ℕ} {k' : Known} → asked ≡ Some found → found ≡ Ok t → KeepsTarget k at op (Some (Ok t)) k' → KeepsJump k at op asked k'
+  is_target a e q = rw (a, e) (record { is = q })
 
-  pub no_slot : (found : LookedUp) → known_limit ≤ at → KeepsJump k at op found k
-  no_slot (Err e) h = record { is = refl }
-  no_slot (Ok t) h = record { is = simp (le-ltb _ _ h) }
+  pub no_slot : (asked : Option LookedUp) → known_limit ≤ at → KeepsJump k at op asked k
+  no_slot None h = record { is = refl }
+  no_slot (Some (Err e)) h = record { is = refl }
+  no_slot (Some (Ok t)) h = record { is = simp (le-ltb _ _ h) }
 
-  pub keeps_jump : Sized k → (found : LookedUp) {k' : Known} → KeepsJump k at op found k' → (P : ℕ → ℕ → ℕ → Type 0) → Entries P k →
-      IfOk found (λ (t : ℕ). P op t at) → Entries P k'
-  keeps_jump sized (Err e) q P entries h = rw q.is entries
-  keeps_jump sized (Ok t) q P entries h = rw q.is (both_if P k sized entries at op t h (ltb at known_limit && ltb t 65536) refl)
+  pub keeps_jump : Sized k → (asked : Option LookedUp) {k' : Known} → KeepsJump k at op asked k' → (P : ℕ → ℕ → ℕ → Type 0) → Entries P k →
+      IfSome asked (λ (found : LookedUp). IfOk found (λ (t : ℕ). P op t at)) → Entries P k'
+  keeps_jump sized None q P entries h = rw q.is entries
+  keeps_jump sized (Some (Err e)) q P entries h = rw q.is entries
+  keeps_jump sized (Some (Ok t)) q P entries h = rw q.is (both_if P k sized entries at op t h (ltb at known_limit && ltb t 65536) refl)
 
 -- what is plain
 module _ (image xs : List ℕ) (i : ℕ) where
   pub formed_byte : well_formed image (inst_of xs i) ≡ true → number_at xs (i * 4) ≤ 255
   formed_byte w = typ_byte image (inst_of xs i) w
+
+  pub plain_is : (b : Bool) → looks_up (number_at xs (i * 4)) ≡ b → is_plain_at image xs i ≡ (not b && well_formed image (inst_of xs i))
+  unfolding is_plain_at
+  plain_is b e = rw e refl
 
   module _ (h : is_plain_at image xs i ≡ true) where
     pub plain_formed : well_formed image (inst_of xs i) ≡ true

@@ -1,6 +1,6 @@
 -- What is kept of an instruction.
 use Rattle.step_core.specs.Parts.{LookedUp}
-use Rattle.std.specs.Prelude.{ℕ, ◌*◌, ◌<◌, ◌≡◌, Bool, true, cond, not, ◌&&◌, ◌⊎◌, List, Ok, Err, ltb, length, get_or, set}
+use Rattle.std.specs.Prelude.{ℕ, ◌*◌, ◌<◌, ◌≡◌, Bool, true, cond, not, ◌&&◌, ◌⊎◌, List, Option, Some, None, Ok, Err, ltb, length, get_or, set}
 use Rattle.inst.specs.Records.{well_formed}
 use Rattle.known.specs.Known.{known_limit, looks_up}
 use Rattle.tables.specs.Tables.{number_at, inst_of}
@@ -13,14 +13,15 @@ with_key k b i op = record { keys = cond b (set k.keys i op) k.keys; targets = k
 pub record Keeps (k : Known) (i op : ℕ) (k' : Known) : Type 0 where
   pub is : k' ≡ with_key k (ltb i known_limit) i op
 
--- and the target that was found, if it fits 16 bits
-abbrev pub KeepsTarget : Known → ℕ → ℕ → LookedUp → Known → Type 0
-KeepsTarget k i op (Err e) k' = k' ≡ k
-KeepsTarget k i op (Ok t) k' =
+-- and the target that was found, if a lookup was made and it fits 16 bits
+abbrev pub KeepsTarget : Known → ℕ → ℕ → Option LookedUp → Known → Type 0
+KeepsTarget k i op None k' = k' ≡ k
+KeepsTarget k i op (Some (Err e)) k' = k' ≡ k
+KeepsTarget k i op (Some (Ok t)) k' =
     let b = ltb i known_limit && ltb t 65536 in
     k' ≡ record { keys = cond b (set k.keys i op) k.keys; targets = cond b (set k.targets i t) k.targets }
 
-pub record KeepsJump (k : Known) (i op : ℕ) (found : LookedUp) (k' : Known) : Type 0 where
+pub record KeepsJump (k : Known) (i op : ℕ) (found : Option LookedUp) (k' : Known) : Type 0 where
   pub is : KeepsTarget k i op found k'
 
 -- an instruction of the table xs that needs no lookup, with a well-formed record

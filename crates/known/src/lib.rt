@@ -54,12 +54,15 @@ impl Known {
 
     // Keeps a jump or CALL with its target. One past the arrays, or with a target past 16 bits, is looked up at each use.
     // Each thing that can be missing has its own line: `ok().and_then(|t| u16::try_from(t).ok())` for two of them is no plainer.
-    pub fn keep_jump(&mut self, at: usize, op: u64, found: Result<usize, LookupError>)
+    pub fn keep_jump(&mut self, at: usize, op: u64, found: Option<Result<usize, LookupError>>)
         ensures sized { Sized self.old }
         ensures kept { op < 256 → KeepsJump self.old at op found self.new }
         ensures no_byte { 256 ≤ op → self.new ≡ self.old }
     {
         let Ok(key) = u8::try_from(op) else {
+            return;
+        };
+        let Some(found) = found else {
             return;
         };
         let Ok(t) = found else {

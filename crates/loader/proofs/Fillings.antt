@@ -80,7 +80,7 @@ module _ (image xs : List ℕ) where
 
     module _ (h : at < length image) where
       -- a refusal is never met
-      filling_never : {A : Type 0} (count : ℕ) → Accepts image count → (m : ℕ) → from_bytes image at ≡ refused m → A
+      pub filling_never : {A : Type 0} (count : ℕ) → Accepts image count → (m : ℕ) → from_bytes image at ≡ refused m → A
       unfolding scan_one
       filling_never count a m e =
           let l = a.loaded in

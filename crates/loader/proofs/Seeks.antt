@@ -16,7 +16,7 @@ use Rattle.loader.specs.Linking.{label_link, next_link, IsLabel}
 
 module _ (bs : List ℕ) (count : ℕ) (room : count * 32 ≤ length bs) (l : Linking) where
   -- the instructions from n on
-  abbrev from : ℕ → List Inst
+  abbrev pub from : ℕ → List Inst
   from n = drop n (take count (insts_of bs))
 
   here : (n : ℕ) → n < count → from n ≡ inst_of bs n ∷ from (n + 1)

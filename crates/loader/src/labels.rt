@@ -69,8 +69,8 @@ fn label_link(code: Code<'_>, l: Linking, n: usize) -> Linking
     }
 }
 
-// The next LABEL of those not yet passed. Behind the last label record nothing is read. Only `load` calls it, with the table
-// that was filled.
+// The next LABEL of those not yet passed. Behind the last label record nothing is read. Here `load` alone calls it, with the table
+// that was filled; public, with load_insts and head_link, for a pass over a label table of another kind.
 pub fn next_link(code: Code<'_>, l: Linking) -> Option<Linking>
     requires { Covers code.insts.now code.count l }
     ensures { result ≡ next_link l l.passed (drop l.passed (take code.entry.count (insts_of code.entry.insts.now))) }

@@ -15,9 +15,10 @@ mod reading;
 mod refusal;
 mod slots;
 
-use filling::load_insts;
-use labels::{head_link, next_link};
+pub use filling::load_insts;
+pub use labels::{Linking, head_link, next_link};
 use machine::{CALL_LIMIT, MEMORY_SIZE, Machine, STACK_LIMIT};
+pub use reading::Counts;
 pub use refusal::Refusal;
 pub use slots::LabelSlot;
 use slots::link;
@@ -45,9 +46,9 @@ pub struct Accepted {
 
 // The same, and how many label records the image has, the head counted.
 #[derive(Clone, Copy)]
-struct Checked {
-    accepted: Accepted,
-    labels: usize,
+pub struct Checked {
+    pub accepted: Accepted,
+    pub labels: usize,
 }
 
 // The fresh machine: not halted, empty stacks with every slot 0, zero bytes, flags 0.

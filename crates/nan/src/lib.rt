@@ -28,10 +28,11 @@ pub fn get_type(cell: u64) -> CellType
 {
     if float64::is_nan(cell) {
         match cell / VALUES % 16 {
-            1 | 8 => CellType::F64,
+            1 => CellType::F64,
             2 => CellType::I64,
             3 => CellType::U64,
             4 => CellType::Ptr,
+            8 => CellType::F64,
             _ => CellType::Unknown,
         }
     } else {

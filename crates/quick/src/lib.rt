@@ -17,12 +17,12 @@ ghost use Rattle.quick.specs.Courses.{Leads};
 use flag::Flag;
 use inst::ops;
 use known::{Entry, Known};
-use step_convert::{Conversion, convert};
+use step_convert::convert;
 use step_core::{Arrays, Executed, Registers, Tested, moved, onward};
-use step_float::{Float, float_step};
+use step_float::float_step;
 use step_flow::calls::{call, ret};
 use step_flow::jumps::compare;
-use step_integer::{Integer, integer_step};
+use step_integer::integer_step;
 use step_stack::cells;
 use tables::Code;
 
@@ -74,10 +74,10 @@ fn execute_known(
         ops::POP => cells::pop(at),
         ops::INC => cells::adjust(at, &mut arrays.stack, integer::inc),
         ops::DEC => cells::adjust(at, &mut arrays.stack, integer::dec),
-        ops::IADD => integer_step(at, &mut arrays.stack, Integer::IADD),
-        ops::ISUB => integer_step(at, &mut arrays.stack, Integer::ISUB),
-        ops::IMUL => integer_step(at, &mut arrays.stack, Integer::IMUL),
-        ops::IDIV => integer_step(at, &mut arrays.stack, Integer::IDIV),
+        ops::IADD => integer_step(at, &mut arrays.stack, ops::IADD),
+        ops::ISUB => integer_step(at, &mut arrays.stack, ops::ISUB),
+        ops::IMUL => integer_step(at, &mut arrays.stack, ops::IMUL),
+        ops::IDIV => integer_step(at, &mut arrays.stack, ops::IDIV),
         ops::CMP => compare(at, &arrays.stack),
         ops::SWAP => cells::swap(at, &mut arrays.stack, code.operand(ip)),
         ops::DUP => cells::dup(at, &mut arrays.stack, code.operand(ip)),
@@ -92,19 +92,19 @@ fn execute_known(
         ops::JMP => moved(at.regs, entry.target()),
         ops::LABEL => onward(at.regs, at.regs.height),
         ops::BOT => cells::bot(at, &mut arrays.stack),
-        ops::FADD => float_step(at, &mut arrays.stack, Float::FADD),
-        ops::FSUB => float_step(at, &mut arrays.stack, Float::FSUB),
-        ops::FMUL => float_step(at, &mut arrays.stack, Float::FMUL),
-        ops::FDIV => float_step(at, &mut arrays.stack, Float::FDIV),
-        ops::CALL => call(at, &mut arrays.calls, Ok(entry.target())),
+        ops::FADD => float_step(at, &mut arrays.stack, ops::FADD),
+        ops::FSUB => float_step(at, &mut arrays.stack, ops::FSUB),
+        ops::FMUL => float_step(at, &mut arrays.stack, ops::FMUL),
+        ops::FDIV => float_step(at, &mut arrays.stack, ops::FDIV),
+        ops::CALL => call(at, &mut arrays.calls, Some(Ok(entry.target()))),
         ops::RET => ret(at, &arrays.calls),
         ops::EXTERN => onward(at.regs, at.regs.height),
-        ops::F2I => convert(at, &mut arrays.stack, Conversion::F2I),
-        ops::F2U => convert(at, &mut arrays.stack, Conversion::F2U),
-        ops::I2F => convert(at, &mut arrays.stack, Conversion::I2F),
-        ops::I2U => convert(at, &mut arrays.stack, Conversion::I2U),
-        ops::U2I => convert(at, &mut arrays.stack, Conversion::U2I),
-        ops::U2F => convert(at, &mut arrays.stack, Conversion::U2F),
+        ops::F2I => convert(at, &mut arrays.stack, ops::F2I),
+        ops::F2U => convert(at, &mut arrays.stack, ops::F2U),
+        ops::I2F => convert(at, &mut arrays.stack, ops::I2F),
+        ops::I2U => convert(at, &mut arrays.stack, ops::I2U),
+        ops::U2I => convert(at, &mut arrays.stack, ops::U2I),
+        ops::U2F => convert(at, &mut arrays.stack, ops::U2F),
         ops::NATIVE => onward(at.regs, at.regs.height),
         ops::READ8 => step_memory::read(at, &mut arrays.stack, &arrays.memory),
         ops::WRITE8 => step_memory::write(at, &arrays.stack, &mut arrays.memory),

@@ -2,13 +2,14 @@
 // what was recorded. What is read and written is in no contract; what an image comes to is digests'.
 #![tactic(auto)]
 
-ghost use Rattle.std.specs.Prelude.{◌+◌, ◌≤◌, ◌<◌, IfSome, length};
+ghost use Rattle.std.specs.Prelude.{◌≡◌, ◌+◌, ◌≤◌, ◌<◌, ◌++◌, IfSome, length};
+ghost use Rattle.std.specs.Int.{w16, to_le_bytes};
 ghost use Rattle.digests.specs.Replays.{digest_bytes};
+ghost use Rattle.replay.specs.Reading.{RecordedLies, Lies};
 
-use digests::{DIGEST, Recorded, Replayed, replay_image};
+use digests::{DIGEST, Recorded, Replayed, replay_recorded};
 use input::read_full;
 use loader::{INST_BYTES, LABEL_BYTES};
-use std::fmt;
 
 // More bytes than the sample has.
 const INPUT: usize = 262144;
@@ -28,20 +29,9 @@ struct Totals {
     differ: usize,
 }
 
-impl fmt::Display for Totals {
-    fn fmt<W: fmt::Write>(&self, f: &mut fmt::Formatter<W>) -> fmt::Result {
-        let Totals {
-            images,
-            steps,
-            differ,
-        } = *self;
-        write!(f, "{images} images, {steps} steps, {differ} differ")
-    }
-}
-
 // Two bytes, the lowest first, and what is behind them.
 fn half_word(bytes: &[u8]) -> Option<(u16, &[u8])>
-    ensures { IfSome result (λ p. length p.1.now < length bytes.now) }
+    ensures { IfSome result (λ p. (p.0 < 65536) × (bytes.now ≡ to_le_bytes w16 p.0 ++ p.1.now)) }
 {
     let (half, rest) = bytes.split_first_chunk::<2>()?;
     Some((u16::from_le_bytes(*half), rest))
@@ -49,7 +39,7 @@ fn half_word(bytes: &[u8]) -> Option<(u16, &[u8])>
 
 // What was recorded at the front, and what is behind it: a refusal's number, or 0 and the digests.
 fn parse_recorded(bytes: &[u8]) -> Option<(Recorded<'_>, &[u8])>
-    ensures { IfSome result (λ p. length (digest_bytes p.0) + length p.1.now < length bytes.now) }
+    ensures { IfSome result (λ p. RecordedLies bytes.now p.0 p.1.now) }
 {
     let (number, rest) = bytes.split_first()?;
     if *number != 0 {
@@ -62,7 +52,8 @@ fn parse_recorded(bytes: &[u8]) -> Option<(Recorded<'_>, &[u8])>
 
 // The record at the front, and what is behind it.
 fn parse(bytes: &[u8]) -> Option<(Record<'_>, &[u8])>
-    ensures { IfSome result (λ p. length (digest_bytes p.0.recorded) + length p.1.now < length bytes.now) }
+    ensures lies { IfSome result (λ p. Lies bytes.now p.0 p.1.now) }
+    ensures shorter { IfSome result (λ p. length (digest_bytes p.0.recorded) + length p.1.now < length bytes.now) }
 {
     let (len, rest) = half_word(bytes)?;
     let (image, rest) = rest.split_at_checked(usize::from(len))?;
@@ -75,31 +66,46 @@ fn replay_record(r: Record<'_>) -> Replayed
 {
     let mut insts = [0u8; INST_BYTES];
     let mut labels = [0u8; LABEL_BYTES];
-    replay_image(r.image, r.recorded, &mut insts, &mut labels)
+    replay_recorded(r.image, r.recorded, &mut insts, &mut labels)
 }
 
-// Each record of the file, up to the first that isn't one; a line where an image differs from what was recorded. What can't
-// be written is passed over. The loop counts no index: where a record ends is read from it.
+// A text and a number, each written by itself. What can't be written is passed over, here and below: what is behind it is
+// tried all the same.
+fn print_number(rt: &impl Print, before: &str, number: usize) {
+    let _ = print!(rt; "{before}");
+    let _ = print!(rt; "{number}");
+}
+
+fn print_totals(rt: &impl Print, totals: Totals) {
+    print_number(rt, "", totals.images);
+    print_number(rt, " images, ", totals.steps);
+    print_number(rt, " steps, ", totals.differ);
+    let _ = print!(rt; " differ\n");
+}
+
+// Each record of the file, up to the first that isn't one; a line where an image differs from what was recorded. The loop
+// counts no index: where a record ends is read from it.
 fn replay(rt: &impl Print, bytes: &[u8]) {
     let mut rest = bytes;
     let mut totals = Totals::default();
     while !rest.is_empty() {
         let Some((record, behind)) = parse(rest) else {
-            let at = bytes.len() - rest.len();
-            let _ = println!(rt; "no record at byte {at}");
+            print_number(rt, "no record at byte ", bytes.len() - rest.len());
+            let _ = print!(rt; "\n");
             break;
         };
         let Replayed { same, steps } = replay_record(record);
         if !same {
-            let image = totals.images;
-            let _ = println!(rt; "image {image} differs after step {steps}");
+            print_number(rt, "image ", totals.images);
+            print_number(rt, " differs after step ", steps);
+            let _ = print!(rt; "\n");
             totals.differ += 1;
         }
         totals.images += 1;
         totals.steps += steps;
         rest = behind;
     }
-    let _ = println!(rt; "{totals}");
+    print_totals(rt, totals);
 }
 
 fn main(rt: HostRuntime) {

@@ -19,7 +19,7 @@ use Rattle.std.specs.Prelude.{Result, Ok, Err}
 use Rattle.loader.specs.declared.Accepted.{Accepted}
 use Rattle.loader.specs.declared.refusal.Refusal.{Refusal}
 use Rattle.loader.specs.declared.refusal.Refusal.TheVariants.{ImageTooLong, UndefinedByte, PastEnd, NameByte, TooManyInstructions, TooManyLabels, NoStart, Native, NoRoom}
-use Rattle.loader.specs.Refusals.{number_of}
+use Rattle.loader.specs.Refusals.{number_of, numbered}
 use Rattle.loader.specs.Loading.{Reply, refuses, starts, reply_of, fresh_at, load_of, insts_left, labels_left, FromBinary}
 use Rattle.loader.specs.Loading as loader
 use Rattle.loader.proofs.Left.{insts_left_lem}
@@ -33,15 +33,19 @@ use Rattle.rewritten.proofs.Whole.{images_are_rewritten}
 
 -- ---- an encoding
 
-means_no_room : (r : Result ℕ EncodeError) → encoder.means r ≡ unencoded 10 → r ≡ Err unwritten.NoRoom
+means_number : (r : Result ℕ EncodeError) (n : ℕ) → encoder.means r ≡ unencoded n → (x : EncodeError) × (r ≡ Err x) × (encoder.number_of x ≡ n)
 unfolding encoder.means
-means_no_room (Err unwritten.IllFormed) h = let z : ◌≡◌ {A = ℕ} 9 10 = ap number_in h in absurd (omega arith)
-means_no_room (Err unwritten.NoRoom) h = refl
-means_no_room (Ok m) h = other 10 m (sym h)
+means_number (Err x) n h = (x, refl, ap number_in h)
+means_number (Ok m) n h = other n m (sym h)
+
+-- one error has the number 10
+no_room : (x : EncodeError) → encoder.number_of x ≡ 10 → x ≡ unwritten.NoRoom
+no_room unwritten.IllFormed e = cc
+no_room unwritten.NoRoom e = refl
 
 means_either : (r : Result ℕ EncodeError) (n : ℕ) (b : Bool) → encoder.means r ≡ cond b (encoded n) (unencoded 10) → r ≡ cond b (Ok n) (Err unwritten.NoRoom)
 means_either r n true e = means_size r n e
-means_either r n false e = means_no_room r e
+means_either r n false e = let p = means_number r 10 e in p.1 ∙ ap Err (no_room p.0 p.2)
 
 -- what is written is the output's front
 pub front : (written out : List ℕ) → length written ≤ length out → take (length written) (written_into written out) ≡ written
@@ -88,6 +92,16 @@ starts_as (Ok a) l e =
     let z : ◌≡◌ {A = Accepted} (record { ip = a.ip; count = a.count }) (record { ip = l.ip; count = count_of l }) = rw (i, n) in
     ap Ok z
 
+refuses_as : (r : Result Accepted Refusal) (n : ℕ) → loader.means r ≡ reply_of (rejects n) → (x : Refusal) × (r ≡ Err x) × (number_of x ≡ n)
+unfolding loader.means reply_of
+refuses_as (Err x) n e = (x, refl, ap count_in e)
+refuses_as (Ok a) n e = unstarted n (fresh_at a.ip) a.count (sym e)
+
+loads_either : (r : Result Accepted Refusal) (l : Loaded) (n : ℕ) (b : Bool) → loader.means r ≡ reply_of (cond b (accepts l) (rejects n))
+    → numbered r ≡ cond b (Ok (record { ip = l.ip; count = count_of l })) (Err n)
+loads_either r l n true e = ap numbered (starts_as r l e)
+loads_either r l n false e = let p = refuses_as r n e in ap numbered p.1 ∙ ap Err p.2
+
 -- one refusal has the number 1
 too_long : (x : Refusal) → number_of x ≡ 1 → x ≡ ImageTooLong
 too_long ImageTooLong e = refl
@@ -100,15 +114,12 @@ too_long NoStart e = cc
 too_long Native e = cc
 too_long NoRoom e = cc
 
-refuses_as : (r : Result Accepted Refusal) → loader.means r ≡ reply_of (rejects 1) → r ≡ Err ImageTooLong
-unfolding loader.means reply_of
-refuses_as (Err x) e = ap Err (too_long x (ap count_in e))
-refuses_as (Ok a) e = unstarted 1 (fresh_at a.ip) a.count (sym e)
-
-loads_either : (r : Result Accepted Refusal) (l : Loaded) (b : Bool) → loader.means r ≡ reply_of (cond b (accepts l) (rejects 1))
-    → r ≡ cond b (Ok (record { ip = l.ip; count = count_of l })) (Err ImageTooLong)
-loads_either r l true e = starts_as r l e
-loads_either r l false e = refuses_as r e
+-- so the number tells the answer
+by_number : (r : Result Accepted Refusal) (a : Accepted) (b : Bool) → numbered r ≡ cond b (Ok a) (Err 1) → r ≡ cond b (Ok a) (Err ImageTooLong)
+by_number (Ok x) a true e = let z : x ≡ a = cc in ap Ok z
+by_number (Ok x) a false e = cc
+by_number (Err x) a true e = cc
+by_number (Err x) a false e = let z : number_of x ≡ 1 = cc in ap Err (too_long x z)
 
 -- ---- together
 
@@ -121,7 +132,7 @@ module _ (image insts : List ℕ) (l : Loaded) (w : Rewritten image (insts_of in
       let same : length w.written ≤ image_limit → loaded_again l w.written ≡ accepts l =
       λ s. ap (λ (b : Bool). cond b (accepts l) (rejects 1)) (le-leb (length w.written) image_limit s) in
       record {
-        answer_is = loads_either r l (leb (length w.written) image_limit) (f.answers ∙ ap reply_of e);
+        answer_is = by_number r _ (leb (length w.written) image_limit) (loads_either r l 1 (leb (length w.written) image_limit) (f.answers ∙ ap reply_of e));
         insts_are = insts_are;
         labels_are = f.labels_are ∙ ap (λ (x : Load). labels_left x labels₂) e;
         encodes_again = λ s. encodes w.written insts₂' (insts_of insts₂) l (count_of l) w.written

@@ -45,7 +45,7 @@ module _ (image xs : List ℕ) (labels : List Label) (count : ℕ) (m : Machine)
   too_high (inl h) = rw (lt-leb _ _ h)
   too_high (inr h) = simp (lt-leb _ _ h.1, and-false)
 
-  too_many : length xs < count * 32 → well_state (lent_program image (insts_of xs) labels count) m ≡ false
+  pub too_many : length xs < count * 32 → well_state (lent_program image (insts_of xs) labels count) m ≡ false
   unfolding well_state
   too_many h = let l : length (insts_of xs) < count = omega (arith, length_records inst xs) in simp (lt-leb _ _ l, and-false)
 
@@ -115,3 +115,8 @@ answers p m limit b o b' s ca me r =
 pub reported : {image insts : List ℕ} {labels : List Label} {count : ℕ} {m : Machine} {limit : ℕ} {dumps : List ℕ} {o : Outcome} {s ca me b dumps' : List ℕ} →
     Reaches (course (lent_program image (insts_of insts) labels count) limit (length dumps / 8) m) limit dumps o b s ca me → dumps' ≡ b → ExecuteParts image insts labels count m limit dumps o s ca me dumps'
 reported r e = rw e (record { answers = answers _ _ _ _ _ _ _ _ _ r; gives = reports _ _ _ _ _ _ _ _ _ r })
+
+-- no more steps are left than the limit has
+pub within : {image insts : List ℕ} {labels : List Label} {count : ℕ} {m : Machine} {limit : ℕ} {dumps : List ℕ} {o : Outcome} {s ca me dumps' : List ℕ} →
+    ExecuteParts image insts labels count m limit dumps o s ca me dumps' → o.at.left ≤ limit
+within e = rw e.answers (omega arith)

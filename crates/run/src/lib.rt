@@ -14,7 +14,7 @@ mod dumps;
 mod follows;
 pub mod progress;
 
-use crate::dumps::Dumps;
+pub use crate::dumps::Dumps;
 use crate::follows::follow;
 use crate::progress::{Asking, Outcome};
 use known::{KNOWN_LIMIT, Known, UNKNOWN};
@@ -37,8 +37,9 @@ pub struct Ran {
 }
 
 // The program, of which steps can be made; or how the run ends that makes none, since it halted, its limit is 0 or it is ill
-// (34) by what no step changes: all but the pointer and the record there.
-fn begin<'a>(
+// (34) by what no step changes: all but the pointer and the record there. Public, with `steps`, for a run over labels of one's own:
+// whoever asks for steps looks the names up.
+pub fn begin<'a>(
     image: &'a [u8],
     insts: &'a [u8],
     count: usize,
@@ -64,7 +65,8 @@ fn begin<'a>(
 // - the limit less the steps left lead to the machine of `at` and the arrays, with the filled cells dumped;
 // - heights are within their limits;
 // - what is known is right.
-fn steps<'a>(
+// It requires that of what it is handed: execute_parts alone calls it here, and proves it.
+pub fn steps<'a>(
     code: Code<'a>,
     known: &mut Known,
     from: Reached,

@@ -1,5 +1,5 @@
 -- The instruction of a first byte. Assumes nothing.
-use Prim.Native.Nat.{ℕ, ◌<◌, ◌≤◌}
+use Prim.Native.Nat.{ℕ, zero, suc, ◌+◌, ◌-◌, ◌<◌, ◌≤◌}
 use mathlib.Core.Path.{◌≡◌, refl, sym}
 use mathlib.Core.Bool.{Bool, true, false}
 use mathlib.Core.Logic.{◌⊎◌, inl, inr}
@@ -11,8 +11,11 @@ use Rattle.flag.specs.declared.Flag.{Flag}
 use Rattle.flag.specs.declared.Flag.TheVariants.{E, L, LE, G, GE, NE, Z, NZ}
 use Rattle.flag.specs.Jumps.{jump_of}
 use Rattle.inst.proofs.Laws.{never, and_left, and_right}
-use Rattle.machine.specs.Step.{NOP, JCC, DMP, READ, WRITE, numbered, op_of}
+use Rattle.machine.specs.Step.{NOP, JCC, DMP, READ, WRITE, integer, float, conversion, numbered, op_of}
 use Rattle.known.specs.Known.{looks_up}
+use Rattle.step_integer.specs.Kinds.{integer_of}
+use Rattle.step_float.specs.Kinds.{float_of}
+use Rattle.step_convert.specs.Kinds.{conversion_of}
 
 -- what doesn't look up is outside the jumps, and isn't CALL
 pub no_jump : (op : ℕ) → looks_up op ≡ false → (op ≡ 28 → ⊥) × (12 ≤ op → 20 < op)
@@ -69,3 +72,26 @@ write_at op (inl e) = rw e refl
 write_at op (inr (inl e)) = rw e refl
 write_at op (inr (inr (inl e))) = rw e refl
 write_at op (inr (inr (inr e))) = rw e refl
+
+-- P of n numbers from i on, and of each of them
+abbrev Each : (ℕ → Type 0) → ℕ → ℕ → Type 0
+Each P i zero = Unit
+Each P i (suc n) = P i × Each P (suc i) n
+
+each : (P : ℕ → Type 0) (n i k op : ℕ) → Each P i n → k < n → op ≡ i + k → P op
+each P zero i k op h l e = absurd (omega arith)
+each P (suc n) i zero op h l e = let q : op ≡ i = omega arith in rw q h.0
+each P (suc n) i (suc k) op h l e = each P n (suc i) k op h.1 (omega arith) (omega arith)
+
+-- the first bytes of the integer and float operations and of the conversions, as their crates number them
+pub integer_at : (op : ℕ) → 5 ≤ op → op ≤ 8 → op_of op ≡ integer (integer_of op)
+unfolding op_of
+integer_at op a b = each (λ (x : ℕ). op_of x ≡ integer (integer_of x)) 4 5 (op - 5) op (refl, (refl, (refl, (refl, tt)))) (omega arith) (omega arith)
+
+pub float_at : (op : ℕ) → 23 ≤ op → op ≤ 26 → op_of op ≡ float (float_of op)
+unfolding op_of
+float_at op a b = each (λ (x : ℕ). op_of x ≡ float (float_of x)) 4 23 (op - 23) op (refl, (refl, (refl, (refl, tt)))) (omega arith) (omega arith)
+
+pub conversion_at : (op : ℕ) → 31 ≤ op → op ≤ 36 → op_of op ≡ conversion (conversion_of op)
+unfolding op_of
+conversion_at op a b = each (λ (x : ℕ). op_of x ≡ conversion (conversion_of x)) 6 31 (op - 31) op (refl, (refl, (refl, (refl, (refl, (refl, tt)))))) (omega arith) (omega arith)

@@ -12,13 +12,13 @@ use flag::Flag;
 use inst::{ops, part};
 use known::{Known, looks_up};
 use machine::CALL_LIMIT;
-use step_convert::{Conversion, convert};
+use step_convert::convert;
 use step_core::{Arrays, Executed, LookupError, Registers, Tested, onward};
-use step_float::{Float, float_step};
+use step_float::float_step;
 use step_flow::calls::{call, ret};
 use step_flow::dumps::dump;
 use step_flow::jumps::{compare, jump, jump_if};
-use step_integer::{Integer, integer_step};
+use step_integer::integer_step;
 use step_stack::cells;
 use tables::Code;
 
@@ -35,11 +35,11 @@ fn execute_jump(
     ensures { Jumps op (found_of found) at.regs flags calls.old result calls.new }
 {
     if op == ops::CALL {
-        return call(at, calls, found);
+        return call(at, calls, Some(found));
     }
     match Flag::of_jump(op) {
-        Some(condition) => jump_if(at, flags, condition, found),
-        None => jump(at, found),
+        Some(condition) => jump_if(at, flags, condition, Some(found)),
+        None => jump(at, Some(found)),
     }
 }
 
@@ -54,26 +54,26 @@ fn execute_instruction(op: u64, v: u64, at: Tested, arrays: &mut Arrays) -> Exec
         ops::POP => cells::pop(at),
         ops::INC => cells::adjust(at, &mut arrays.stack, integer::inc),
         ops::DEC => cells::adjust(at, &mut arrays.stack, integer::dec),
-        ops::IADD => integer_step(at, &mut arrays.stack, Integer::IADD),
-        ops::ISUB => integer_step(at, &mut arrays.stack, Integer::ISUB),
-        ops::IMUL => integer_step(at, &mut arrays.stack, Integer::IMUL),
-        ops::IDIV => integer_step(at, &mut arrays.stack, Integer::IDIV),
+        ops::IADD => integer_step(at, &mut arrays.stack, ops::IADD),
+        ops::ISUB => integer_step(at, &mut arrays.stack, ops::ISUB),
+        ops::IMUL => integer_step(at, &mut arrays.stack, ops::IMUL),
+        ops::IDIV => integer_step(at, &mut arrays.stack, ops::IDIV),
         ops::CMP => compare(at, &arrays.stack),
         ops::SWAP => cells::swap(at, &mut arrays.stack, v),
         ops::DUP => cells::dup(at, &mut arrays.stack, v),
         ops::BOT => cells::bot(at, &mut arrays.stack),
-        ops::FADD => float_step(at, &mut arrays.stack, Float::FADD),
-        ops::FSUB => float_step(at, &mut arrays.stack, Float::FSUB),
-        ops::FMUL => float_step(at, &mut arrays.stack, Float::FMUL),
-        ops::FDIV => float_step(at, &mut arrays.stack, Float::FDIV),
+        ops::FADD => float_step(at, &mut arrays.stack, ops::FADD),
+        ops::FSUB => float_step(at, &mut arrays.stack, ops::FSUB),
+        ops::FMUL => float_step(at, &mut arrays.stack, ops::FMUL),
+        ops::FDIV => float_step(at, &mut arrays.stack, ops::FDIV),
         ops::IDMP | ops::FDMP => dump(at, &arrays.stack, v),
         ops::RET => ret(at, &arrays.calls),
-        ops::F2I => convert(at, &mut arrays.stack, Conversion::F2I),
-        ops::F2U => convert(at, &mut arrays.stack, Conversion::F2U),
-        ops::I2F => convert(at, &mut arrays.stack, Conversion::I2F),
-        ops::I2U => convert(at, &mut arrays.stack, Conversion::I2U),
-        ops::U2I => convert(at, &mut arrays.stack, Conversion::U2I),
-        ops::U2F => convert(at, &mut arrays.stack, Conversion::U2F),
+        ops::F2I => convert(at, &mut arrays.stack, ops::F2I),
+        ops::F2U => convert(at, &mut arrays.stack, ops::F2U),
+        ops::I2F => convert(at, &mut arrays.stack, ops::I2F),
+        ops::I2U => convert(at, &mut arrays.stack, ops::I2U),
+        ops::U2I => convert(at, &mut arrays.stack, ops::U2I),
+        ops::U2F => convert(at, &mut arrays.stack, ops::U2F),
         ops::READ8 | ops::READ16 | ops::READ32 | ops::READ64 => step_memory::read(
             at,
             &mut arrays.stack,
@@ -116,7 +116,7 @@ pub fn step<'a>(
             return Err(part(code.image, inst.start, inst.len).unwrap());
         };
         let answer = execute_jump(op, found, flags, at, &mut arrays.calls);
-        known.keep_jump(ip, op, found);
+        known.keep_jump(ip, op, Some(found));
         Ok(answer)
     } else {
         known.learn(code, ip);

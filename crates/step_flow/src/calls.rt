@@ -1,6 +1,7 @@
 // CALL and RET.
 ghost use Rattle.machine.specs.Step as definition;
-ghost use Rattle.step_core.specs.Parts.{OnCalls, OnCalling, found_of};
+ghost use Rattle.step_core.specs.Parts.{OnCalls, OnCalling};
+ghost use Rattle.step_flow.specs.Asked.{found_if_asked};
 
 use machine::{CALL_LIMIT, Trap};
 use step_core::{Executed, LookupError, Registers, Tested, moved};
@@ -10,9 +11,9 @@ use step_core::{Executed, LookupError, Registers, Tested, moved};
 pub fn call(
     at: Tested,
     calls: &mut [u64; CALL_LIMIT],
-    found: Result<usize, LookupError>,
+    found: Option<Result<usize, LookupError>>,
 ) -> Executed
-    ensures { OnCalling (definition.call (found_of found)) at.regs calls.old result calls.new }
+    ensures { OnCalling (definition.call (found_if_asked found)) at.regs calls.old result calls.new }
 {
     let call_height = at.regs.call_height;
     if CALL_LIMIT <= call_height {
@@ -21,6 +22,9 @@ pub fn call(
     let stacked = Registers {
         call_height: call_height + 1,
         ..at.regs
+    };
+    let Some(found) = found else {
+        return Executed::Ill;
     };
     match found {
         Ok(target) => {

@@ -2,7 +2,8 @@
 ghost use Rattle.machine.specs.Step as definition;
 ghost use Rattle.flag.specs.Flags.{is_set};
 ghost use Rattle.flag.specs.Jumps.{jump_of};
-ghost use Rattle.step_core.specs.Parts.{OnRegisters, OnStack, found_of};
+ghost use Rattle.step_core.specs.Parts.{OnRegisters, OnStack};
+ghost use Rattle.step_flow.specs.Asked.{found_if_asked};
 
 use flag::Flag;
 use machine::{STACK_LIMIT, Trap};
@@ -21,9 +22,12 @@ pub fn compare(at: Tested, stack: &[u64; STACK_LIMIT]) -> Executed
     Executed::Compared(at.next(last), flag::cmp(a, b))
 }
 
-pub fn jump(at: Tested, found: Result<usize, LookupError>) -> Executed
-    ensures { OnRegisters (definition.jump (found_of found)) at.regs result }
+pub fn jump(at: Tested, found: Option<Result<usize, LookupError>>) -> Executed
+    ensures { OnRegisters (definition.jump (found_if_asked found)) at.regs result }
 {
+    let Some(found) = found else {
+        return Executed::Ill;
+    };
     match found {
         Ok(target) => moved(at.regs, target),
         Err(LookupError::NoLabel) => Executed::Trap(at.regs, Trap::NoSuchLabel),
@@ -31,16 +35,19 @@ pub fn jump(at: Tested, found: Result<usize, LookupError>) -> Executed
     }
 }
 
-// The jump that tests the flag. The label is looked up before the flag: `found` comes first.
+// The jump that tests the flag. The label is looked up before the flag: `found` comes first, and without it this is the jump.
 pub fn jump_if(
     at: Tested,
     flags: u8,
     condition: Flag,
-    found: Result<usize, LookupError>,
+    found: Option<Result<usize, LookupError>>,
 ) -> Executed
-    ensures { OnRegisters (definition.jump_if (is_set flags (jump_of condition)) (found_of found)) at.regs result }
+    ensures { OnRegisters (definition.jump_if (is_set flags (jump_of condition)) (found_if_asked found)) at.regs result }
 {
-    match found {
+    let Some(answer) = found else {
+        return jump(at, found);
+    };
+    match answer {
         Ok(_) if !flag::is_set(flags, condition) => onward(at.regs, at.regs.height),
         _ => jump(at, found),
     }

@@ -1,14 +1,15 @@
-// IADD, ISUB, IMUL, IDIV. Where the function is called with a literal kind, the compiler keeps only that instruction's
-// part. The float instructions are a function of their own: these test types and IDIV its divisor, those the operands for
-// NaN, so that one function would take two closures, and its contract both families of definitions.
+// IADD, ISUB, IMUL, IDIV: first bytes 5 to 8. Where the function is called with a literal first byte, the compiler keeps
+// only that instruction's part. The float instructions are a function of their own: these test types and IDIV its divisor,
+// those the operands for NaN, so that one function would take two closures, and its contract both families of definitions.
 #![tactic(auto)]
 
 ghost use Rattle.std.specs.Prelude.{◌≡◌, true};
 ghost use Rattle.nan.specs.declared.CellType.TheVariants.{I64};
 ghost use Rattle.machine.specs.Step as definition;
 ghost use Rattle.step_core.specs.Parts.{OnStack};
-ghost use Rattle.step_integer.specs.Kinds.{integer_of, type_trap};
+ghost use Rattle.step_integer.specs.Kinds.{integer_of, kind_of, type_trap};
 
+use inst::ops;
 use machine::{STACK_LIMIT, Trap};
 use nan::CellType;
 use step_core::{Executed, Tested, onward, trap};
@@ -25,9 +26,22 @@ pub enum Integer {
 
 #[tactic(auto, unfolding(machine::specs::Step::divides, machine::specs::Step::of_cells), using(nan::proofs::Laws::abs_value, crate::proofs::Laws::divisor))]
 impl Integer {
+    // The kind of a first byte, or of any other number. In line, so that a literal one leaves nothing of it.
+    #[inline(always)]
+    fn of(op: u64) -> Integer
+        ensures { kind_of result ≡ integer_of op }
+    {
+        match op {
+            ops::IADD => Integer::IADD,
+            ops::ISUB => Integer::ISUB,
+            ops::IMUL => Integer::IMUL,
+            _ => Integer::IDIV,
+        }
+    }
+
     // Only IDIV by zero has no result.
     fn divides(self, b: u64) -> bool
-        ensures { result ≡ definition.divides (integer_of self) b }
+        ensures { result ≡ definition.divides (kind_of self) b }
     {
         match self {
             Integer::IDIV => b % nan::VALUES != 0,
@@ -36,8 +50,8 @@ impl Integer {
     }
 
     fn of_cells(self, a: u64, b: u64) -> u64
-        requires { definition.divides (integer_of self) b ≡ true }
-        ensures { result ≡ definition.of_cells (integer_of self) a b }
+        requires { definition.divides (kind_of self) b ≡ true }
+        ensures { result ≡ definition.of_cells (kind_of self) a b }
     {
         match self {
             Integer::IADD => integer::iadd(a, b),
@@ -76,8 +90,8 @@ fn type_trap(a: u64, b: u64) -> Trap
 }
 
 // As an I64 cell is known, the test for both comes before 31.
-pub fn integer_step(at: Tested, stack: &mut [u64; STACK_LIMIT], kind: Integer) -> Executed
-    ensures { OnStack (definition.integer_step (integer_of kind)) at.regs stack.old result stack.new }
+pub fn integer_step(at: Tested, stack: &mut [u64; STACK_LIMIT], op: u64) -> Executed
+    ensures { OnStack (definition.integer_step (integer_of op)) at.regs stack.old result stack.new }
 {
     let height = at.regs.height;
     if height < 2 {
@@ -89,6 +103,7 @@ pub fn integer_step(at: Tested, stack: &mut [u64; STACK_LIMIT], kind: Integer) -
     if !is_i64(a) || !is_i64(b) {
         return trap(at.regs, last, type_trap(a, b));
     }
+    let kind = Integer::of(op);
     if !kind.divides(b) {
         return trap(at.regs, last, Trap::DivisionByZero);
     }

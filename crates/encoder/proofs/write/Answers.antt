@@ -1,8 +1,6 @@
 -- `encoder::write` meets its contract. Assumes nothing.
 use mathlib.Core.Path.{refl}
 use native.Mathlib.Omega.{arith}
-use borrow.Author.Rules.{rules}
-use Rattle.inst.proofs.Parts.{rest_long, lent_part}
 use Rattle.encoder.proofs.Records.{inst_at, table_within, stored_well, stored_fits, stored_next, stored_all}
 use Rattle.encoder.proofs.write.Goals as goal
 
@@ -16,7 +14,7 @@ as_bytes-size-requires c =
     let e = inst_at _ _ _ _ c.args.code.inside t c.inst.ensures in
     let s = c.loop-i.invariant in
     let f = stored_fits _ _ _ _ _ _ _ s _ t e in
-    record { inst_value = stored_well _ _ _ _ _ _ _ s _ t e; inst_in_bounds = omega (arith, rest_long c.loop-i.out c.loop-i.at) }
+    record { inst_value = stored_well _ _ _ _ _ _ _ s _ t e; inst_in_bounds = f }
 
 pub overflow_add-at : goal.overflow_add-at
 overflow_add-at c =
@@ -32,7 +30,7 @@ loop-i-preserved c =
     let s = c.loop-i.invariant in
     let e = c.as_bytes-size.ensures in
     let i = inst_at _ _ _ _ c.args.code.inside t c.inst.ensures in
-    stored_next _ _ _ _ _ _ _ s _ _ _ t i e.value (lent_part c.loop-i.out _ _ c.loop-i.at _ (stored_fits _ _ _ _ _ _ _ s _ t i) (search rules) e.out_after)
+    stored_next _ _ _ _ _ _ _ s _ _ _ t i e.value e.out_after
 
 pub returns : goal.returns
 returns c = stored_all _ _ _ _ _ _ _ c.loop-i.invariant c.loop-i-test.false

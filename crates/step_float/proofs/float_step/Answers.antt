@@ -8,7 +8,7 @@ use Rattle.step_float.proofs.float_step.Goals as goal
 
 pub returns-then-height-ge2 : goal.returns-then-height-ge2
 unfolding float_step ◌must◌else◌then◌ moved with_stack
-returns-then-height-ge2 c ca me = success c.onward.ensures (λ f. simp (le-leb _ _ c.if-height-ge2.true, c.of_floats.ensures)) (search rules)
+returns-then-height-ge2 c ca me = success c.onward.ensures (λ f. simp (le-leb _ _ c.if-height-ge2.true, c.of_floats.ensures, c.of-kind.ensures)) (search rules)
 
 pub returns-else-height-ge2 : goal.returns-else-height-ge2
 unfolding float_step ◌must◌else◌then◌ moved with_stack

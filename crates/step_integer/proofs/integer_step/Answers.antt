@@ -32,9 +32,9 @@ returns-then-not-is_i64 c ca me =
 pub returns-then-not-divides : goal.returns-then-not-divides
 unfolding moved with_stack
 returns-then-not-divides c ca me =
-    trapped c.trap-then-not-divides.ensures (λ f. sym (integer_zero _ _ (le-leb _ _ c.if-height-lt2.false) (simp (← c.is_i64.ensures, c.if-not-is_i64.false, ← c.is_i64-else-not-is_i64.ensures, c.if-not-is_i64-2.false)) (sym c.divides.ensures ∙ c.if-not-divides.true)))
+    trapped c.trap-then-not-divides.ensures (λ f. sym (integer_zero _ _ (le-leb _ _ c.if-height-lt2.false) (simp (← c.is_i64.ensures, c.if-not-is_i64.false, ← c.is_i64-else-not-is_i64.ensures, c.if-not-is_i64-2.false)) (rw c.of-kind.ensures at (sym c.divides.ensures ∙ c.if-not-divides.true))))
 
 pub returns : goal.returns
 unfolding moved with_stack
 returns c ca me =
-    success c.onward.ensures (λ f. simp c.of_cells.ensures (sym (integer_does _ _ (le-leb _ _ c.if-height-lt2.false) (simp (← c.is_i64.ensures, c.if-not-is_i64.false, ← c.is_i64-else-not-is_i64.ensures, c.if-not-is_i64-2.false)) (sym c.divides.ensures ∙ c.if-not-divides.false)))) (search rules)
+    success c.onward.ensures (λ f. simp (c.of_cells.ensures, c.of-kind.ensures) (sym (integer_does _ _ (le-leb _ _ c.if-height-lt2.false) (simp (← c.is_i64.ensures, c.if-not-is_i64.false, ← c.is_i64-else-not-is_i64.ensures, c.if-not-is_i64-2.false)) (rw c.of-kind.ensures at (sym c.divides.ensures ∙ c.if-not-divides.false))))) (search rules)
