@@ -25,7 +25,7 @@ fn in_program(count: usize, t: u64) -> Result<usize, LookupError>
 }
 
 // Where the label of that name leads, by the chain's first record that has it. The next index must be below `bound`. A call, and not
-// in line in the run: there each record would wait for what the run keeps in registers.
+// in line in the run: there each record of a chain would load again what the run keeps in registers.
 #[inline(never)]
 pub fn lookup<T: LabelTable>(
     image: &[u8],
